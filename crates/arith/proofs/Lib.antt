@@ -1,0 +1,4 @@
+pub mod Rounded
+pub mod Digits
+pub mod Aligned
+pub mod Normal

@@ -1,0 +1,26 @@
+use Rattle.arith.specs.Floats.Nan.{differs}
+use Rattle.arith.specs.Floats.{maximumOf}
+use borrow.Author.Needs.{needs}
+use native.Mathlib.Omega.{arith}
+use Rattle.arith.proofs.floats.maximum.Statement.{statement}
+use Rattle.arith.proofs.floats.maximum.Tie as tie
+use Rattle.arith.proofs.floats.maximum.Reads as reads
+use Rattle.arith.proofs.floats.maximum.Lts as lts
+
+-- src/floats.rt:43:9
+returns : tie.Need-returns
+unfolding maximumOf
+returns c = simp (← differs (c .before .args .a), c .if1 .taken)
+
+-- src/floats.rt:46:9
+returns-2 : tie.Need-returns-2
+unfolding maximumOf
+returns-2 c = simp (← differs (c .before .before .args .a), c .before .if1 .left, c .if2 .taken)
+
+-- src/floats.rt:39:1
+returns-3 : tie.Need-returns-3
+unfolding maximumOf
+returns-3 c = simp (← differs (c .before .before .args .a), c .before .if1 .left, c .if2 .left)
+
+pub maximum-spec : {M : Type 1} → statement M
+maximum-spec = tie.close (tie.spec returns returns-2 returns-3)

@@ -1,0 +1,22 @@
+-- A float differs from itself exactly if it is a NaN.
+use mathlib.Core.Path.{_≡_, refl, sym, ap, subst, _∙_}
+use mathlib.Core.Bool.{Bool, true, false, not}
+use Prim.Native.Nat.{ℕ, _*_}
+use lib.Dec.{T}
+use lib.Ieee.{Float, nan, inf, fin, isNan, ne, eq, up, down}
+use lib.Dec.{eqb, eqb-refl}
+use lib.Ieee.Bits.{is-true}
+
+pub differs : (x : Float) → ne x x ≡ isNan x
+unfolding isNan ne eq
+differs nan = refl
+differs (inf true) = refl
+differs (inf false) = refl
+differs (fin true m e) = simp (is-true (eqb (m * up e * down e) (m * up e * down e)) (eqb-refl (m * up e * down e)))
+differs (fin false m e) = simp (is-true (eqb (m * up e * down e) (m * up e * down e)) (eqb-refl (m * up e * down e)))
+
+pub nan-is : (x : Float) → isNan x ≡ true → x ≡ nan
+unfolding isNan
+nan-is nan e = refl
+nan-is (inf s) e = cc
+nan-is (fin s m k) e = cc

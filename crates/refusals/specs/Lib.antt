@@ -1,0 +1,2 @@
+-- The refusal numbers, and which of several faults is given.
+pub mod First
