@@ -3,8 +3,7 @@ pub mod Nan
 pub mod Absolute
 pub mod Order
 pub mod Clamp
-use mathlib.Core.Bool.{Bool, true, false, cond}
-use Prim.Native.Nat.{ℕ}
+use mathlib.Core.Bool.{false, cond}
 use lib.Ieee.{Float, nan, inf, fin, binary64, ofBits, isNan, lt}
 
 abbrev pub f0 : Float

@@ -2,7 +2,7 @@
 pub mod Squares
 pub mod Nearest
 use Prim.Native.Nat.{ℕ, zero, suc, _+_, _-_, _*_, _/_, _^_}
-use mathlib.Core.Bool.{Bool, true, false, cond}
+use mathlib.Core.Bool.{false, cond}
 use lib.Dec.{leb, ltb}
 use lib.Ieee.{Float, binary64, round, size}
 use Rattle.arith.specs.Whole.{roundedOf}

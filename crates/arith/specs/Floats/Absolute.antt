@@ -1,15 +1,12 @@
 -- The absolute value by the float's order with zero.
 use mathlib.Core.Path.{_≡_, refl, sym, subst}
-use mathlib.Core.Bool.{Bool, true, false, cond, _&&_, _||_}
+use mathlib.Core.Bool.{Bool, true, false, _&&_}
 use Prim.Native.Nat.{ℕ, zero, suc, _+_, _*_, _≤_}
-use native.Mathlib.Nat.{mul-one, zero-mul, mul-pos}
 use native.Mathlib.Omega.{arith}
 use borrow.Author.Tests.{ltb-true, ltb-false, eqb-true, eq-eqb}
-use lib.IntN.{pos}
 use lib.Dec.{T, eqb, ltb}
 use lib.Ieee.{Float, nan, inf, fin, neg, eq, lt, fits, binary64, up, down, ofBits}
 use lib.Ieee.Bits.{ofBits-fits}
-use lib.Ieee.Fits.{up-pos}
 use lib.Ieee.Back.{whole-unique}
 use Rattle.arith.specs.Floats.{f0, absoluteOf}
 

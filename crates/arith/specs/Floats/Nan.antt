@@ -1,8 +1,7 @@
 -- A float differs from itself exactly if it is a NaN.
-use mathlib.Core.Path.{_≡_, refl, sym, ap, subst, _∙_}
-use mathlib.Core.Bool.{Bool, true, false, not}
-use Prim.Native.Nat.{ℕ, _*_}
-use lib.Dec.{T}
+use mathlib.Core.Path.{_≡_, refl}
+use mathlib.Core.Bool.{true, false}
+use Prim.Native.Nat.{_*_}
 use lib.Ieee.{Float, nan, inf, fin, isNan, ne, eq, up, down}
 use lib.Dec.{eqb, eqb-refl}
 use lib.Ieee.Bits.{is-true}

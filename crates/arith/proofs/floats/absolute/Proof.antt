@@ -1,22 +1,16 @@
+-- `arith::floats::absolute` meets its contract.
 use mathlib.Core.Path.{subst, sym}
 use lib.Dec.{T}
 use Rattle.arith.specs.Floats.Absolute.{negative, none, positive}
-use borrow.Author.Needs.{needs}
-use native.Mathlib.Omega.{arith}
 use Rattle.arith.proofs.floats.absolute.Statement.{statement}
 use Rattle.arith.proofs.floats.absolute.Tie as tie
-use Rattle.arith.proofs.floats.absolute.Reads as reads
-use Rattle.arith.proofs.floats.absolute.Lts as lts
 
--- src/floats.rt:56:9
 returns : tie.Need-returns
 returns c = negative _ (c .if1 .taken)
 
--- src/floats.rt:59:9
 returns-2 : tie.Need-returns-2
 returns-2 c = none (c .before .before .args .x) (subst T (sym (c .before .before .good .0 .1)) tt) (c .if2 .taken)
 
--- src/floats.rt:52:1
 returns-3 : tie.Need-returns-3
 returns-3 c = positive _ (c .before .if1 .left) (c .if2 .left)
 

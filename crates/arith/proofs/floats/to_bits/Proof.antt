@@ -1,25 +1,20 @@
+-- `arith::floats::to_bits` meets its contract.
 use Rattle.arith.specs.Floats.Nan.{differs, nan-is}
 use lib.Dec.{T}
 use mathlib.Core.Bool.{Bool, not}
 use mathlib.Core.Path.{ap, sym, subst, _∙_}
 use lib.Ieee.{binary64, toBits}
-use native.Mathlib.Omega.{arith}
 use borrow.Author.Needs.{needs}
 use Rattle.arith.proofs.floats.to_bits.Statement.{statement}
 use Rattle.arith.proofs.floats.to_bits.Tie as tie
-use Rattle.arith.proofs.floats.to_bits.Reads as reads
-use Rattle.arith.proofs.floats.to_bits.Lts as lts
 
--- src/floats.rt:22:9
 returns : tie.Need-returns
 unfolding toBits
 returns c = sym (ap (toBits binary64) (nan-is _ (sym (differs (c .before .args .x)) ∙ c .if1 .taken)))
 
--- src/floats.rt:24:5
 float-to-bits-result : tie.Need-float-to-bits-result
 float-to-bits-result c = subst (λ (b : Bool). T (not b)) (sym (sym (differs (c .before .args .x)) ∙ c .if1 .left)) tt
 
--- src/floats.rt:18:1
 returns-2 : tie.Need-returns-2
 returns-2 c = search needs
 
