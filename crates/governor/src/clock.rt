@@ -1,0 +1,54 @@
+// Time in each mode, in nanoseconds by the clock readings that the caller hands in.
+ghost use mathlib.Core.Path.{_≡_};
+ghost use Prim.Native.Nat.{_-_, _≤_, _^_};
+ghost use lib.Dec.{ltb};
+ghost use Rattle.governor.specs.Clock.{elapsedOf, timeIn, timeUpTo, timesOf};
+use crate::state::GovernorMode;
+use crate::state::Times;
+
+// Time since the kept reading; none if the clock went back.
+fn elapsed(t: Times, now: u64) -> u64
+    ensures { λ r. ⌜ r ≡ elapsedOf t now ⌝ }
+{
+    if now < t.last_transition {
+        return 0;
+    }
+    now - t.last_transition
+}
+
+fn time_in(mode: GovernorMode, t: Times) -> u64
+    ensures { λ r. ⌜ r ≡ timeIn mode t ⌝ }
+{
+    match mode {
+        GovernorMode::Balanced => t.balanced,
+        GovernorMode::ReadProtect => t.read_protect,
+        GovernorMode::WriteEmergency => t.write_emergency,
+    }
+}
+
+// The mode's time up to now would pass the largest u64.
+pub(crate) fn time_full(mode: GovernorMode, t: Times, now: u64) -> bool
+    ensures { λ r. ⌜ r ≡ ltb (2 ^ 64 - 1) (timeUpTo mode t now) ⌝ }
+{
+    0xffff_ffff_ffff_ffff - time_in(mode, t) < elapsed(t, now)
+}
+
+pub(crate) fn times_after(mode: GovernorMode, mut t: Times, now: u64) -> Times
+    requires { ⌜ timeUpTo mode t now ≤ 2 ^ 64 - 1 ⌝ }
+    ensures { λ r. ⌜ r ≡ timesOf mode t now ⌝ }
+{
+    let spent = elapsed(t, now);
+    t.last_transition = now;
+    match mode {
+        GovernorMode::Balanced => {
+            t.balanced = t.balanced + spent;
+        }
+        GovernorMode::ReadProtect => {
+            t.read_protect = t.read_protect + spent;
+        }
+        GovernorMode::WriteEmergency => {
+            t.write_emergency = t.write_emergency + spent;
+        }
+    }
+    t
+}

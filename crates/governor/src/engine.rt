@@ -1,0 +1,157 @@
+// The observation of the running engine: `observe` over a window of its cumulative read counters.
+ghost use mathlib.Core.Path.{_≡_};
+ghost use Prim.Native.Nat.{_+_, _-_, _≤_, _^_};
+ghost use lib.Dec.{ltb};
+ghost use Rattle.governor.specs.Numbers.{source};
+ghost use Rattle.governor.specs.Observe.{large};
+ghost use Rattle.governor.specs.Engine.{probedSum, resolvedSum, probedSince, resolvedSince, deltasLarge, perGet, sampleOf, windowOf, engineFault, engineOf};
+use crate::mode;
+use crate::observe;
+use crate::pressure::PressureSample;
+use crate::state::GovernorState;
+use crate::state::Observed;
+use crate::state::Window;
+
+pub struct ReadAmpStats {
+    pub gets_total: u64,
+    pub resolved_in_memtable: u64,
+    pub resolved_in_immutable: u64,
+    pub l0_tables_probed: u64,
+    pub leveled_tables_probed: u64,
+}
+
+// An observation without its probe count.
+pub struct EngineSample {
+    pub l0_count: u64,
+    pub l0_write_stall_trigger: u64,
+    pub max_level_debt_ratio: f64,
+    pub backlog_levels: u64,
+}
+
+fn saturating_sub(a: u64, b: u64) -> u64
+    ensures { λ r. ⌜ r ≡ a - b ⌝ }
+{
+    if a < b {
+        return 0;
+    }
+    a - b
+}
+
+// The sum of both probe counts would pass the largest u64.
+fn probe_sum_full(a: ReadAmpStats) -> bool
+    ensures { λ r. ⌜ r ≡ ltb (2 ^ 64 - 1) (probedSum a) ⌝ }
+{
+    0xffff_ffff_ffff_ffff - a.l0_tables_probed < a.leveled_tables_probed
+}
+
+// The probe delta is too large a count, taken from the exact sum, which may pass the largest u64.
+fn probed_large(w: Window, a: ReadAmpStats) -> bool
+    ensures { λ r. ⌜ r ≡ large (probedSince w a) ⌝ }
+{
+    let l0 = saturating_sub(a.l0_tables_probed, w.last_probed);
+    let left = saturating_sub(w.last_probed, a.l0_tables_probed);
+    let leveled = saturating_sub(a.leveled_tables_probed, left);
+    if observe::is_large(l0) {
+        return true;
+    }
+    if observe::is_large(leveled) {
+        return true;
+    }
+    observe::is_large(l0 + leveled)
+}
+
+fn resolved_sum(a: ReadAmpStats) -> u64
+    ensures { λ r. ⌜ r ≡ resolvedSum a ⌝ }
+{
+    saturating_sub(
+        saturating_sub(a.gets_total, a.resolved_in_memtable),
+        a.resolved_in_immutable,
+    )
+}
+
+fn resolved_since(w: Window, a: ReadAmpStats) -> u64
+    ensures { λ r. ⌜ r ≡ resolvedSince w a ⌝ }
+{
+    saturating_sub(resolved_sum(a), w.last_resolved)
+}
+
+// Tables probed for each get that a table resolved, since the last observation.
+fn probed_per_get(s: GovernorState, a: ReadAmpStats) -> f64
+    requires { ⌜ probedSum a ≤ 2 ^ 64 - 1 ⌝ }
+    ensures { λ r. ⌜ r ≡ perGet s a ⌝ }
+{
+    let resolved = resolved_since(s.window, a);
+    if 0 < resolved {
+        let probed = saturating_sub(
+            a.l0_tables_probed + a.leveled_tables_probed,
+            s.window.last_probed,
+        );
+        return arith::whole::of_u64(probed) / arith::whole::of_u64(resolved);
+    }
+    s.signals.tables_probed_ewma
+}
+
+fn sample(s: GovernorState, e: EngineSample, a: ReadAmpStats) -> PressureSample
+    requires { ⌜ probedSum a ≤ 2 ^ 64 - 1 ⌝ }
+    ensures { λ r. ⌜ r ≡ sampleOf s e a ⌝ }
+{
+    PressureSample {
+        l0_count: e.l0_count,
+        l0_write_stall_trigger: e.l0_write_stall_trigger,
+        max_level_debt_ratio: e.max_level_debt_ratio,
+        tables_probed_per_get: probed_per_get(s, a),
+        backlog_levels: e.backlog_levels,
+    }
+}
+
+fn deltas_large(w: Window, a: ReadAmpStats) -> bool
+    ensures { λ r. ⌜ r ≡ deltasLarge w a ⌝ }
+{
+    if probed_large(w, a) {
+        return true;
+    }
+    observe::is_large(resolved_since(w, a))
+}
+
+fn engine_fault(s: GovernorState, now: u64, e: EngineSample, a: ReadAmpStats) -> u64
+    ensures { λ r. ⌜ r ≡ engineFault source s now e a ⌝ }
+{
+    let was = s.mode;
+    if !mode::is_sound(was, s.streaks) {
+        return refusals::BAD_STATE;
+    }
+    if observe::counts_large(e.l0_count, e.l0_write_stall_trigger, e.backlog_levels) {
+        return refusals::TOO_LARGE;
+    }
+    if deltas_large(s.window, a) {
+        return refusals::TOO_LARGE;
+    }
+    if probe_sum_full(a) {
+        return refusals::COUNTER_FULL;
+    }
+    if observe::counters_full(s, now, sample(s, e, a)) {
+        return refusals::COUNTER_FULL;
+    }
+    refusals::NONE
+}
+
+fn window_now(a: ReadAmpStats) -> Window
+    requires { ⌜ probedSum a ≤ 2 ^ 64 - 1 ⌝ }
+    ensures { λ r. ⌜ r ≡ windowOf a ⌝ }
+{
+    Window {
+        last_probed: a.l0_tables_probed + a.leveled_tables_probed,
+        last_resolved: resolved_sum(a),
+    }
+}
+
+pub fn observe_engine(mut s: GovernorState, now: u64, e: EngineSample, a: ReadAmpStats) -> Observed
+    ensures { λ r. ⌜ r ≡ engineOf source s now e a ⌝ }
+{
+    let refusal = engine_fault(s, now, e, a);
+    if refusal == refusals::NONE {
+        s = observe::accepted(s, window_now(a), now, sample(s, e, a));
+        return Observed { refusal, state: s };
+    }
+    Observed { refusal, state: s }
+}

@@ -1,0 +1,46 @@
+-- A call answers 0 and a new state, or a fault's number and the old one. So a refused call changes nothing.
+use Prim.Native.Nat.{ℕ}
+use mathlib.Core.Path.{_≡_, refl}
+use mathlib.Core.Bool.{Bool, true, false, cond}
+use lib.Dec.{T, eqb, eqb→eq}
+use Rattle.refusals.specs.First.{none}
+use Rattle.governor.specs.declared.state.GovernorState.{GovernorState}
+use Rattle.governor.specs.declared.state.Observed.{Observed}
+use Rattle.governor.specs.Numbers.{Tuning}
+use Rattle.governor.specs.Observe.{observeFault, acceptedOf, answered, observedOf}
+use Rattle.governor.specs.Engine.{engineFault, windowOf, sampleOf, engineOf}
+use Rattle.governor.specs.Counters.{moveFault, trivialMoveOf, outcomeFault, outcomeOf}
+use Rattle.promises.specs.Reading.{Observation, sampled, counted}
+use Rattle.promises.specs.Calls.{answerOf}
+use Rattle.promises.specs.Counts.{Action, observe, move, outcome, choose, focus, acted}
+
+-- what a call says: whether it was accepted, and the state after it
+abbrev pub Says : (Bool → GovernorState → Type 0) → Observed → Type 0
+Says P r = P (eqb (r .refusal) none) (r .state)
+
+pub by-fault : (P : Bool → GovernorState → Type 0) (fault : ℕ) (old new : GovernorState) → P true new → P false old → Says P (answered fault old new)
+by-fault P fault old new p q = elim (eqb fault none) as (λ b. P b (cond b new old)) [ true ↦ p | false ↦ q ]
+
+-- the state after an accepted observation
+abbrev pub newOf : Tuning → GovernorState → ℕ → Observation → GovernorState
+newOf G s now (sampled x) = acceptedOf G s (s .window) now x
+newOf G s now (counted e a) = acceptedOf G s (windowOf a) now (sampleOf s e a)
+
+pub by-answer : (P : Bool → GovernorState → Type 0) (G : Tuning) (s : GovernorState) (now : ℕ) (o : Observation) → P true (newOf G s now o) → P false s → Says P (answerOf G s now o)
+unfolding observedOf engineOf
+by-answer P G s now (sampled x) = by-fault P (observeFault G s now x) s _
+by-answer P G s now (counted e a) = by-fault P (engineFault G s now e a) s _
+
+abbrev Kept : GovernorState → Bool → GovernorState → Type 0
+Kept s b t = (T b → ⊥) → t ≡ s
+
+kept : (G : Tuning) (s : GovernorState) (a : Action) → Says (Kept s) (acted G s a)
+unfolding trivialMoveOf outcomeOf
+kept G s (observe c) = by-answer (Kept s) G s (c .now) (c .observation) (λ n. absurd (n tt)) (λ _. refl)
+kept G s (move bytes) = by-fault (Kept s) (moveFault s) s _ (λ n. absurd (n tt)) (λ _. refl)
+kept G s (outcome predicted actual) = by-fault (Kept s) (outcomeFault s predicted actual) s _ (λ n. absurd (n tt)) (λ _. refl)
+kept G s (choose kind) = λ n. absurd (n tt)
+kept G s (focus f) = λ n. absurd (n tt)
+
+pub refused-changes-nothing : (G : Tuning) (s : GovernorState) (a : Action) → ¬ (acted G s a .refusal ≡ none) → acted G s a .state ≡ s
+refused-changes-nothing G s a n = kept G s a (λ t. n (eqb→eq _ none t))

@@ -1,0 +1,94 @@
+-- From a fresh governor refusal 1 never occurs: whatever was done before, each mode's own streak stays below its window and the others stay 0.
+use Prim.Native.Nat.{ℕ, _-_, _^_, _<_}
+use native.Mathlib.Omega.{arith}
+use mathlib.Core.Path.{_≡_}
+use mathlib.Core.Bool.{Bool, true, false, not, _||_}
+use mathlib.Core.List.{List, [], _∷_}
+use lib.Dec.{T, ltb, lt→ltb}
+use lib.Ieee.Fits.{and-i, and-r}
+use Rattle.refusals.specs.First.{_gives_, firstFault, badState, tooLarge, counterFull}
+use Rattle.governor.specs.declared.state.GovernorState.{GovernorState}
+use Rattle.governor.specs.declared.state.GovernorMode.{GovernorMode}
+use Rattle.governor.specs.declared.state.GovernorMode.the-variants.{Balanced, ReadProtect, WriteEmergency}
+use Rattle.governor.specs.declared.state.Streaks.{Streaks}
+use Rattle.governor.specs.declared.mode.Turned.{Turned}
+use Rattle.governor.specs.declared.counters.CandidateKind.the-variants.{L0, LevelBatch, TrivialMove}
+use Rattle.governor.specs.Numbers.{Tuning}
+use Rattle.governor.specs.State.{freshOf}
+use Rattle.governor.specs.Mode.{switched, soundOf}
+use Rattle.governor.specs.Pressure.{probedOf}
+use Rattle.governor.specs.Observe.{large, full, countsLarge, countersFull, acceptedOf, observeFault, observedOf}
+use Rattle.governor.specs.Engine.{probedSum, deltasLarge, sampleOf, engineFault, engineOf}
+use Rattle.governor.specs.Counters.{chosenOf, moveFault, trivialMoveOf, outcomeFault, outcomeOf}
+use Rattle.promises.specs.Reading.{Observation, sampled, counted, Seen, seenOf}
+use Rattle.promises.specs.Calls.{answerOf}
+use Rattle.promises.specs.Counts.{Action, observe, move, outcome, choose, focus, acted, afterAll}
+use Rattle.promises.proofs.Turns.{at, grown, ends-in, window, turned, longer, by-turn}
+use Rattle.promises.proofs.Answers.{by-fault, newOf, by-answer}
+
+first-three : (sound large full : Bool) → T sound → ¬ (firstFault (not sound gives badState ∷ large gives tooLarge ∷ full gives counterFull ∷ []) ≡ badState)
+first-three true true full t e = omega arith
+first-three true false true t e = omega arith
+first-three true false false t e = omega arith
+
+module _ (G : Tuning) (exits : 0 < G .exitEmergency) (enters : 0 < G .enterReadProtect) (leaves : 0 < G .exitReadProtect) where
+  abbrev Sound : Turned → Type 0
+  Sound t = T (soundOf G (t .mode) (t .streaks))
+
+  cleared : (m : GovernorMode) → Sound (switched m)
+  unfolding soundOf
+  cleared Balanced = and-i (ltb 0 (G .enterReadProtect)) _ (lt→ltb 0 _ enters) tt
+  cleared ReadProtect = and-i (ltb 0 (G .exitReadProtect)) _ (lt→ltb 0 _ leaves) tt
+  cleared WriteEmergency = and-i (ltb 0 (G .exitEmergency)) _ (lt→ltb 0 _ exits) tt
+
+  goes-on : (m : GovernorMode) (k : Streaks) (n : ℕ) → Sound (at m k) → n < window G m → Sound (at m (grown m k n))
+  unfolding soundOf
+  goes-on Balanced k n h lt = and-i (ltb n _) _ (lt→ltb n _ lt) (and-r (ltb (k .«enter_read_protect») _) _ h)
+  goes-on ReadProtect k n h lt = and-i (ltb n _) _ (lt→ltb n _ lt) (and-r (ltb (k .«exit_read_protect») _) _ h)
+  goes-on WriteEmergency k n h lt = and-i (ltb n _) _ (lt→ltb n _ lt) (and-r (ltb (k .«exit_emergency») _) _ h)
+
+  turns : (m : GovernorMode) (k : Streaks) (x : Seen) → Sound (at m k) → Sound (turned G m k x)
+  turns m k x h = by-turn G Sound m k x (λ _ _. cleared WriteEmergency) (λ _ _. cleared (ends-in m)) (λ _ lt. goes-on m k (longer G m k x) h lt)
+
+  abbrev SoundIn : GovernorState → Type 0
+  SoundIn s = Sound (at (s .mode) (s .streaks))
+
+  accepted : (s : GovernorState) (now : ℕ) (o : Observation) → SoundIn s → SoundIn (newOf G s now o)
+  unfolding acceptedOf
+  accepted s now (sampled x) h = turns (s .mode) (s .streaks) (seenOf x (probedOf (s .signals) x)) h
+  accepted s now (counted e a) h = turns (s .mode) (s .streaks) (seenOf (sampleOf s e a) (probedOf (s .signals) (sampleOf s e a))) h
+
+  keeps : (s : GovernorState) (a : Action) → SoundIn s → SoundIn (acted G s a .state)
+  unfolding trivialMoveOf outcomeOf chosenOf
+  keeps s (observe c) h = by-answer (λ _ t. SoundIn t) G s (c .now) (c .observation) (accepted s (c .now) (c .observation) h) h
+  keeps s (move bytes) h = by-fault (λ _ t. SoundIn t) (moveFault s) s _ h h
+  keeps s (outcome predicted actual) h = by-fault (λ _ t. SoundIn t) (outcomeFault s predicted actual) s _ h h
+  keeps s (choose L0) h = h
+  keeps s (choose (LevelBatch level length)) h = h
+  keeps s (choose (TrivialMove level)) h = h
+  keeps s (focus f) h = h
+
+  keeps-all : (s : GovernorState) (l : List Action) → SoundIn s → SoundIn (afterAll G s l)
+  unfolding afterAll
+  keeps-all s [] h = h
+  keeps-all s (a ∷ l) h = keeps-all (acted G s a .state) l (keeps s a h)
+
+  observed : (s : GovernorState) (now : ℕ) (o : Observation) → SoundIn s → ¬ (answerOf G s now o .refusal ≡ badState)
+  unfolding observedOf observeFault engineOf engineFault
+  observed s now (sampled x) h =
+      first-three (soundOf G (s .mode) (s .streaks)) (countsLarge (x .«l0_count») (x .«l0_write_stall_trigger») (x .«backlog_levels»)) (countersFull G s now x) h
+  observed s now (counted e a) h =
+      first-three (soundOf G (s .mode) (s .streaks)) (countsLarge (e .«l0_count») (e .«l0_write_stall_trigger») (e .«backlog_levels») || deltasLarge (s .window) a)
+      (ltb (2 ^ 64 - 1) (probedSum a) || countersFull G s now (sampleOf s e a)) h
+
+  answers : (s : GovernorState) (a : Action) → SoundIn s → ¬ (acted G s a .refusal ≡ badState)
+  unfolding trivialMoveOf outcomeOf
+  answers s (observe c) h = observed s (c .now) (c .observation) h
+  answers s (move bytes) h = first-three true false (full (s .counters .«trivial_moves_performed»)) tt
+  answers s (outcome predicted actual) h = first-three true (large predicted || large actual) (full (s .counters .«predicted_actual_samples»)) tt
+  answers s (choose kind) h = first-three true false false tt
+  answers s (focus f) h = first-three true false false tt
+
+  -- whatever was done before, and whatever is done next
+  pub never-bad-state : (clock : ℕ) (l : List Action) (a : Action) → ¬ (acted G (afterAll G (freshOf clock) l) a .refusal ≡ badState)
+  never-bad-state clock l a = answers (afterAll G (freshOf clock) l) a (keeps-all (freshOf clock) l (cleared Balanced))

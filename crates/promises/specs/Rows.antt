@@ -1,0 +1,96 @@
+-- 01's rows marked P: one list, each row read through the contracts' own definitions. P10 joins with the choice.
+use Prim.Native.Nat.{ℕ}
+use mathlib.Core.Bool.{Bool, true, false, _&&_}
+use mathlib.Core.List.{List, [], _∷_, map}
+use lib.Dec.{eqb}
+use lib.Ieee.{binary64, ofBits}
+use Rattle.governor.specs.declared.state.GovernorMode.{GovernorMode}
+use Rattle.governor.specs.declared.state.GovernorMode.the-variants.{Balanced, ReadProtect, WriteEmergency}
+use Rattle.governor.specs.declared.pressure.PressureSample.{PressureSample}
+use Rattle.governor.specs.Numbers.{source, modeNumber, dominantNumber}
+use Rattle.governor.specs.State.{freshOf}
+use Rattle.governor.specs.Pacing.{pacingOf, dominantOf}
+use Rattle.promises.specs.Reading.{sampled}
+use Rattle.promises.specs.Calls.{Call, modes}
+
+-- floats stand as their bits
+pub data Row : Type 0 where
+  -- a mode, a pressure, and the pause in nanoseconds
+  pause : GovernorMode → ℕ → ℕ → Row
+  -- samples given to a fresh governor, all at clock 0, and the mode's number after each
+  run : List PressureSample → List ℕ → Row
+  -- the vector's three components, and the dominant's number
+  dominant : ℕ → ℕ → ℕ → ℕ → Row
+
+abbrev pub sample : ℕ → ℕ → ℕ → ℕ → PressureSample
+sample count trigger ratio probes =
+    record {
+      «l0_count» = count;
+      «l0_write_stall_trigger» = trigger;
+      «max_level_debt_ratio» = ofBits binary64 ratio;
+      «tables_probed_per_get» = ofBits binary64 probes;
+      «backlog_levels» = 0;
+    }
+
+abbrev pub atZero : PressureSample → Call
+atZero x = record { now = 0; observation = sampled x }
+
+abbrev pub equal : List ℕ → List ℕ → Bool
+equal [] [] = true
+equal [] (n ∷ ns) = false
+equal (m ∷ ms) [] = false
+equal (m ∷ ms) (n ∷ ns) = eqb m n && equal ms ns
+
+unfoldable pub holds : Row → Bool
+holds (pause mode pressure nanoseconds) = eqb (pacingOf mode (ofBits binary64 pressure)) nanoseconds
+holds (run samples numbers) = equal (map modeNumber (modes source (freshOf 0) (map atZero samples))) numbers
+holds (dominant x y z number) =
+    eqb (dominantNumber (dominantOf (record { l0 = ofBits binary64 x; «deep_debt» = ofBits binary64 y; read = ofBits binary64 z }))) number
+
+unfoldable pub all : List Row → Bool
+all [] = true
+all (r ∷ rs) = holds r && all rs
+
+-- 3 of 4 L0, 0 of 4, 2 of 4, 100 of 0 with a NaN ratio, and 10.0 probes for each get
+abbrev hotOne : PressureSample
+hotOne = sample 3 4 0 0
+
+abbrev recoveredOne : PressureSample
+recoveredOne = sample 0 4 0 0
+
+abbrev neither : PressureSample
+neither = sample 2 4 0 0
+
+abbrev untriggered : PressureSample
+untriggered = sample 100 0 0x7ff8000000000000 0
+
+abbrev probing : PressureSample
+probing = sample 0 4 0 0x4024000000000000
+
+unfoldable pub rows : List Row
+rows =
+    -- P1: pressure 0 and 0.5
+    pause Balanced 0 20000
+    ∷ pause Balanced 0x3fe0000000000000 12500
+    -- P2: pressure 0 and 0.25
+    ∷ pause ReadProtect 0 40000
+    ∷ pause ReadProtect 0x3fd0000000000000 31250
+    -- P3: NaN
+    ∷ pause Balanced 0x7ff8000000000000 5000
+    ∷ pause ReadProtect 0x7ff8000000000000 5000
+    ∷ pause WriteEmergency 0x7ff8000000000000 5000
+    -- P4
+    ∷ run (hotOne ∷ []) (2 ∷ [])
+    -- P5: after two, and after three
+    ∷ run (hotOne ∷ recoveredOne ∷ recoveredOne ∷ []) (2 ∷ 2 ∷ 2 ∷ [])
+    ∷ run (hotOne ∷ recoveredOne ∷ recoveredOne ∷ recoveredOne ∷ []) (2 ∷ 2 ∷ 2 ∷ 0 ∷ [])
+    -- P6
+    ∷ run (hotOne ∷ recoveredOne ∷ recoveredOne ∷ neither ∷ recoveredOne ∷ recoveredOne ∷ []) (2 ∷ 2 ∷ 2 ∷ 2 ∷ 2 ∷ 2 ∷ [])
+    -- P7
+    ∷ run (untriggered ∷ []) (0 ∷ [])
+    -- P8
+    ∷ run (probing ∷ probing ∷ probing ∷ []) (0 ∷ 0 ∷ 1 ∷ [])
+    -- P9: (0.05, 0, 0) and (0.5, 0.5, 0.5)
+    ∷ dominant 0x3fa999999999999a 0 0 0
+    ∷ dominant 0x3fe0000000000000 0x3fe0000000000000 0x3fe0000000000000 1
+    ∷ []
