@@ -1,0 +1,3 @@
+-- Decisions, their words and their log.
+pub mod Decision
+pub mod Log

@@ -1,0 +1,83 @@
+-- What one candidate costs and buys, as the Rust's `estimate_candidate` has it, on lists. Definitions only.
+use Prim.Native.Nat.{ℕ, _+_, _-_, min, max}
+use mathlib.Core.Bool.{Bool, true, false, not, cond}
+use mathlib.Core.List.{List, [], _∷_, _++_}
+use lib.ListN.{length, take, drop}
+use lib.Dec.{eqb}
+use lib.Ieee.{Float, binary64, div, toBits}
+use Rattle.arith.specs.Floats.{f0, f1, minimumOf}
+use Rattle.arith.specs.Whole.{floatOf}
+use Rattle.tables.specs.declared.records.Table.{Table}
+use Rattle.tables.specs.declared.records.Entry.{Entry}
+use Rattle.selection.specs.declared.records.Candidate.{Candidate}
+use Rattle.selection.specs.declared.records.CandidateEstimate.{CandidateEstimate}
+
+-- the first table with a number, or none
+unfoldable pub lookup : List Table → ℕ → List Table
+lookup [] n = []
+lookup (t ∷ ts) n = cond (eqb (t .number) n) (t ∷ []) (lookup ts n)
+
+-- the tables of a list of numbers; a number that no table has counts for nothing
+unfoldable pub matched : List Table → List ℕ → List Table
+matched ts [] = []
+matched ts (n ∷ ns) = lookup ts n ++ matched ts ns
+
+unfoldable pub atLevel : ℕ → List Table → List Table
+atLevel l [] = []
+atLevel l (t ∷ ts) = cond (eqb (t .level) l) (t ∷ atLevel l ts) (atLevel l ts)
+
+unfoldable pub offLevel : ℕ → List Table → List Table
+offLevel l [] = []
+offLevel l (t ∷ ts) = cond (eqb (t .level) l) (offLevel l ts) (t ∷ offLevel l ts)
+
+unfoldable pub bytesOf : List Table → ℕ
+bytesOf [] = 0
+bytesOf (t ∷ ts) = t .size + bytesOf ts
+
+-- the smallest number of some tables, and `other` where there is none
+unfoldable pub oldestFrom : ℕ → List Table → ℕ
+oldestFrom best [] = best
+oldestFrom best (t ∷ ts) = oldestFrom (min best (t .number)) ts
+
+unfoldable pub oldestOf : ℕ → List Table → ℕ
+oldestOf other [] = other
+oldestOf other (t ∷ ts) = oldestFrom (t .number) ts
+
+-- the share of a level's excess that some bytes are, by the first entry with that level
+unfoldable pub reliefOf : List Table → List Entry → ℕ → ℕ → Float
+reliefOf ts [] level bytes = f0
+reliefOf ts (e ∷ es) level bytes =
+    cond (eqb (e .level) level)
+    (minimumOf (div binary64 (floatOf bytes) (floatOf (max (bytesOf (atLevel level ts) - e .budget) 1))) f1)
+    (reliefOf ts es level bytes)
+
+abbrev pub isL0 : Candidate → Bool
+isL0 c = eqb (c .kind) 1
+
+-- a candidate's own numbers in the number list
+abbrev pub inputsOf : List ℕ → Candidate → List ℕ
+inputsOf ns c = take (c .count) (drop (c .start) ns)
+
+unfoldable pub estimateOf : List Table → ℕ → List Entry → List ℕ → Candidate → CandidateEstimate
+estimateOf ts next es ns c =
+    let found = matched ts (inputsOf ns c) in
+    let level = cond (isL0 c) 0 (c .level) in
+    let input = bytesOf (atLevel level found) in
+    let overlap = bytesOf (offLevel level found) in
+    record {
+      «input_bytes» = input;
+      «overlap_bytes» = overlap;
+      «estimated_rewrite_bytes» = cond (eqb (c .kind) 3) 0 (input + overlap);
+      «debt_relief_bytes» = input;
+      «l0_files_removed» = cond (isL0 c) (length (atLevel 0 found)) 0;
+      age = next - oldestOf next (atLevel level found);
+      «l0_relief» = cond (isL0 c) f1 f0;
+      «debt_relief» = cond (isL0 c) f0 (reliefOf ts es (c .level) input);
+      «read_relief» = cond (isL0 c) f1 f0;
+    }
+
+-- its nine words, floats as bits
+abbrev pub nineWords : CandidateEstimate → List ℕ
+nineWords e =
+    e .«input_bytes» ∷ e .«overlap_bytes» ∷ e .«estimated_rewrite_bytes» ∷ e .«debt_relief_bytes» ∷ e .«l0_files_removed» ∷ e .age
+    ∷ toBits binary64 (e .«l0_relief») ∷ toBits binary64 (e .«debt_relief») ∷ toBits binary64 (e .«read_relief») ∷ []

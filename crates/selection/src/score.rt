@@ -1,0 +1,1 @@
+// The score of an estimate under a pressure vector.
