@@ -2,7 +2,7 @@
 """Writes the frozen questions of crates/answers and the answers to them, which no code of the port works out.
 
   scripts/rows.py            writes crates/answers/stdin and crates/answers/stdout
-  scripts/rows.py --check    says whether they are what it would write
+  scripts/rows.py --check    says whether they begin with what it would write; the rows after that are the oracle's (docs/ROWS.md)
 
 The rows are those of scripts/parts, in this order. A part has a function rows() that gives pairs of a question and its answer.
 """
@@ -31,7 +31,7 @@ def main():
         text = "".join(line + "\n" for line in lines).encode()
         if sys.argv[1:]:
             with open(path, "rb") as kept:
-                same = kept.read() == text and same
+                same = kept.read(len(text)) == text and same
         else:
             with open(path, "wb") as out:
                 out.write(text)

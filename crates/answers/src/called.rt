@@ -1,22 +1,12 @@
-// Which call a question names. Each crate's calls stand in a file of their own, whose `answered` hands a name that it does not know on; the last one refuses it.
-use crate::arith_calls;
-use crate::question;
-use crate::question::ARGS;
-use crate::question::LENT;
-use crate::written;
-use crate::written::OUT;
+// Which call a question names: the two of the program itself, and those of each crate of calls.
+use asked::question;
+use asked::question::ARGS;
+use asked::question::LENT;
+use asked::written;
+use asked::written::OUT;
 
-// The shapes of one number and of two (question::shape_with).
-pub(crate) const ONE: u64 = 0b10;
-
-pub(crate) const TWO: u64 = 0b100;
-
-pub(crate) fn bad_arguments(out: &mut [u8; OUT], at: usize) -> usize {
-    written::refused(out, at, b"arguments")
-}
-
-pub(crate) fn unknown_name(out: &mut [u8; OUT], at: usize) -> usize {
-    written::refused(out, at, b"name")
+fn bad_arguments(out: &mut [u8; OUT], at: usize) -> usize {
+    asked::bad_arguments(out, at).at
 }
 
 struct Walk {
@@ -27,7 +17,7 @@ struct Walk {
 fn echo_one(kind: u64, args: &[u64; ARGS], place: usize, out: &mut [u8; OUT], at: usize) -> Walk {
     if kind == 0 {
         return Walk {
-            place: std::num::wrapping_add_usize(place, 1),
+            place: question::beyond(place, 1),
             at: written::number(out, at, question::word(args, place)),
         };
     }
@@ -63,8 +53,50 @@ fn echo(shape: u64, args: &[u64; ARGS], out: &mut [u8; OUT], at: usize) -> usize
     to
 }
 
+fn put_lent(
+    one: &[u64],
+    n: usize,
+    two: &[u64],
+    m: usize,
+    bytes: &[u8],
+    out: &mut [u8; OUT],
+    at: usize,
+) -> usize {
+    let a = written::front(out, at, one, n as u64);
+    let b = written::byte(out, a, b' ');
+    let c = written::front(out, b, two, m as u64);
+    let d = written::byte(out, c, b' ');
+    written::byte_list(out, d, bytes)
+}
+
 // Two lists and one of bytes, by way of the buffers that calls are lent.
 fn lent(
+    args: &[u64; ARGS],
+    one: &mut [u64; LENT],
+    two: &mut [u64; LENT],
+    bytes: &mut [u8; LENT],
+    out: &mut [u8; OUT],
+    at: usize,
+) -> usize {
+    let second = question::after(args, 0);
+    let third = question::after(args, second);
+    let n = question::laid(args, 0, one);
+    let m = question::laid(args, second, two);
+    let end = question::laid_bytes(args, third, bytes, 0);
+    if LENT < n {
+        return bad_arguments(out, at);
+    }
+    if LENT < m {
+        return bad_arguments(out, at);
+    }
+    if LENT < end {
+        return bad_arguments(out, at);
+    }
+    put_lent(one, n, two, m, question::cut(bytes, 0, end), out, at)
+}
+
+fn crates(
+    name: &[u8],
     shape: u64,
     args: &[u64; ARGS],
     one: &mut [u64; LENT],
@@ -73,25 +105,15 @@ fn lent(
     out: &mut [u8; OUT],
     at: usize,
 ) -> usize {
-    if shape != 0b1111 {
-        return bad_arguments(out, at);
+    let first = asked_governor::answered(name, shape, args, out, at);
+    if first.known {
+        return first.at;
     }
-    let second = question::after(args, 0);
-    let third = question::after(args, second);
-    if !question::laid(args, 0, one) {
-        return bad_arguments(out, at);
+    let second = asked_tables::answered(name, shape, args, one, two, bytes, out, at);
+    if second.known {
+        return second.at;
     }
-    if !question::laid(args, second, two) {
-        return bad_arguments(out, at);
-    }
-    if !question::laid_bytes(args, third, bytes) {
-        return bad_arguments(out, at);
-    }
-    let a = written::front(out, at, one, question::word(args, 0));
-    let b = written::byte(out, a, b' ');
-    let c = written::front(out, b, two, question::word(args, second));
-    let d = written::byte(out, c, b' ');
-    written::byte_front(out, d, bytes, question::word(args, third))
+    written::refused(out, at, b"name")
 }
 
 pub(crate) fn answered(
@@ -108,7 +130,10 @@ pub(crate) fn answered(
         return echo(shape, args, out, at);
     }
     if check::same(name, b"lent") {
-        return lent(shape, args, one, two, bytes, out, at);
+        if shape != 0b1111 {
+            return bad_arguments(out, at);
+        }
+        return lent(args, one, two, bytes, out, at);
     }
-    arith_calls::answered(name, shape, args, out, at)
+    crates(name, shape, args, one, two, bytes, out, at)
 }

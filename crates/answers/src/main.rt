@@ -1,14 +1,13 @@
 // Answers questions: reads standard input, and writes one line for each line of it (ANSWERS.md).
-mod arith_calls;
 mod called;
-mod question;
-mod written;
 
 ghost use Prim.Native.Nat.{_≤_};
 ghost use lib.ListN.{length};
-use question::ARGS;
-use question::LENT;
-use written::OUT;
+use asked::question;
+use asked::question::ARGS;
+use asked::question::LENT;
+use asked::written;
+use asked::written::OUT;
 
 const TEXT: usize = 1048576;
 
@@ -31,14 +30,14 @@ fn answer(
         return written::refused(out, at, b"long");
     }
     let end = question::find(line, 0, b' ');
-    let asked = question::arguments(line, end, args);
-    if asked.fault == question::LONG {
+    let read = question::arguments(line, end, args);
+    if read.fault == question::LONG {
         return written::refused(out, at, b"long");
     }
-    if asked.fault != 0 {
+    if read.fault != 0 {
         return written::refused(out, at, b"number");
     }
-    called::answered(&line[0..end], asked.shape, args, one, two, bytes, out, at)
+    called::answered(&line[0..end], read.shape, args, one, two, bytes, out, at)
 }
 
 struct Done {

@@ -1,0 +1,81 @@
+-- `generate::put_level` meets its contract. The level and the next stand at the front of their arrays.
+use Prim.Native.Nat.{_+_}
+use native.Mathlib.Omega.{arith}
+use denote.Ref.{now}
+use borrow.Author.Needs.{needs}
+use Rattle.tables.specs.Tables.{tablesOf}
+use Rattle.tables.specs.Levels.{placesOf, byKey}
+use Rattle.tables.specs.ListSteps.{places-small, byKey-small, sorted-room}
+use Rattle.tables.specs.Writes.{Fronted, fronted}
+use Rattle.candidates.proofs.generate.put_level.Statement.{statement}
+use Rattle.candidates.proofs.generate.put_level.Tie as tie
+
+-- the level and the next, at the front of their buffers
+first : (c : tie.After-sort-level) → let a = c .before .before .before .before .before .before .args in Fronted (c .sort-level .result) (c .sort-level .last .1 .1 .1 .0) (byKey (now (a .keys)) (tablesOf (now (a .tables))) (a .level))
+first c =
+    let a = c .before .before .before .before .before .before .args in
+    let e = sorted-room (now (a .keys)) (tablesOf (now (a .tables))) (a .level) 1024 (c .before .before .before .before .before .before .pre .0 .0) in
+    fronted _ _ _ _ (rw e at (c .sort-level .ensures .0)) (rw e at (c .sort-level .ensures .1)) (omega (arith, byKey-small (now (a .keys)) (tablesOf (now (a .tables))) (a .level), c .before .before .before .before .before .before .pre .0 .0))
+
+second : (c : tie.After-level-places) → let a = c .before .before .before .before .before .before .before .before .before .args in Fronted (c .level-places .result) (c .level-places .last .1 .1 .0) (placesOf (a .level + 1) (tablesOf (now (a .tables))))
+second c =
+    let a = c .before .before .before .before .before .before .before .before .before .args in
+    fronted _ _ _ _ (c .level-places .ensures .0) (c .level-places .ensures .1) (omega (arith, places-small (a .level + 1) 0 (tablesOf (now (a .tables))), c .before .before .before .before .before .before .before .before .before .pre .0 .0))
+
+slice-aggregate-sort-level : tie.Need-slice-aggregate-sort-level
+slice-aggregate-sort-level c = search needs
+
+sort-level-requires : tie.Need-sort-level-requires
+sort-level-requires c κs = search needs
+
+add-level-places : tie.Need-add-level-places
+add-level-places c = search needs
+
+slice-aggregate-level-places : tie.Need-slice-aggregate-level-places
+slice-aggregate-level-places c = search needs
+
+level-places-requires : tie.Need-level-places-requires
+level-places-requires c κs = search needs
+
+array-share-prefix-order : tie.Need-array-share-prefix-order
+array-share-prefix-order c = first (c .before .before .before .before) .within
+
+slice-aggregate-put-ordered : tie.Need-slice-aggregate-put-ordered
+slice-aggregate-put-ordered c = first (c .before .before .before .before .before) .long
+
+array-share-prefix-next : tie.Need-array-share-prefix-next
+array-share-prefix-next c = second (c .before .before) .within
+
+slice-aggregate-put-ordered-2 : tie.Need-slice-aggregate-put-ordered-2
+slice-aggregate-put-ordered-2 c = second (c .before .before .before) .long
+
+put-ordered-requires : tie.Need-put-ordered-requires
+put-ordered-requires c κs = let a = c .before .before .before .before .before .before .before .before .before .before .before .before .before .before .args in
+    rw (first (c .before .before .before .before .before .before .before .before) .taken, second (c .before .before .before .before .before) .taken) ((c .before .before .before .before .before .before .before .before .before .before .before .before .before .before .pre .0 .1, omega (arith, byKey-small (now (a .keys)) (tablesOf (now (a .tables))) (a .level), c .before .before .before .before .before .before .before .before .before .before .before .before .before .before .pre .0 .0)), c .before .before .before .before .before .before .before .before .before .before .before .before .before .before .pre .1)
+
+same-length : tie.Need-same-length
+same-length c = search needs
+
+same-length-2 : tie.Need-same-length-2
+same-length-2 c = search needs
+
+returns : tie.Need-returns
+returns c = rw (first (c .before .before .before .before .before .before .before .before .before .before .before .before .before) .taken, second (c .before .before .before .before .before .before .before .before .before .before) .taken) at (c .before .before .before .before .put-ordered .ensures)
+
+pub put-level-spec : {M : Type 1} → statement M
+put-level-spec =
+    tie.close
+    (tie.spec
+    slice-aggregate-sort-level
+    sort-level-requires
+    add-level-places
+    slice-aggregate-level-places
+    level-places-requires
+    array-share-prefix-order
+    slice-aggregate-put-ordered
+    array-share-prefix-next
+    slice-aggregate-put-ordered-2
+    put-ordered-requires
+    same-length
+    same-length-2
+    returns)

@@ -1,0 +1,13 @@
+-- `writers::number_at` meets its contract.
+use borrow.Author.Needs.{needs}
+use Rattle.candidates.proofs.writers.number_at.Statement.{statement}
+use Rattle.candidates.proofs.writers.number_at.Tie as tie
+
+table-at-requires : tie.Need-table-at-requires
+table-at-requires c κs = search needs
+
+returns : tie.Need-returns
+returns c = rw (c .table-at .ensures)
+
+pub number-at-spec : {M : Type 1} → statement M
+number-at-spec = tie.close (tie.spec table-at-requires returns)

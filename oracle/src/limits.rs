@@ -1,0 +1,321 @@
+//! Every refusal that a call can give, each adjacent pair of its order at once, and every limit just in and just out.
+
+use crate::ask;
+use crate::question::{Arg, Question};
+use crate::state::{LARGE, State};
+
+const MAX: u64 = u64::MAX;
+const ONE: u64 = 0x3ff0000000000000;
+
+/// A good question, and what spoils it, in 01's order: each way alone, and each two that stand next to each other in that order.
+struct Faults {
+    good: Question,
+    ways: Vec<(u64, fn(&mut Question))>,
+}
+
+impl Faults {
+    fn questions(&self) -> Vec<Question> {
+        let mut out = vec![self.good.clone()];
+        let numbers: Vec<u64> = {
+            let mut n: Vec<u64> = self.ways.iter().map(|w| w.0).collect();
+            n.dedup();
+            n
+        };
+        let of = |number: u64| self.ways.iter().filter(move |w| w.0 == number).map(|w| w.1);
+        for number in &numbers {
+            for way in of(*number) {
+                let mut q = self.good.clone();
+                way(&mut q);
+                out.push(q);
+            }
+        }
+        for pair in numbers.windows(2) {
+            for one in of(pair[0]) {
+                for other in of(pair[1]) {
+                    let mut q = self.good.clone();
+                    other(&mut q);
+                    one(&mut q);
+                    out.push(q);
+                }
+            }
+        }
+        out
+    }
+}
+
+fn set(q: &mut Question, i: usize, n: u64) {
+    q.args[i] = Arg::Number(n);
+}
+
+fn list(q: &mut Question, i: usize) -> &mut Vec<u64> {
+    match &mut q.args[i] {
+        Arg::List(l) => l,
+        Arg::Number(_) => panic!("a list"),
+    }
+}
+
+fn shorten(q: &mut Question, i: usize) {
+    list(q, i).pop();
+}
+
+/// The words of a state in a question: mode 0, its own streak 11, times from 14, kept reading 17, switches 20, batch sum 21, count 22, moves 23, samples 26.
+fn word(q: &mut Question, i: usize, n: u64) {
+    list(q, 0)[i] = n;
+}
+
+fn room(n: usize) -> Vec<u64> {
+    (0..n as u64).map(|i| 7000 + i).collect()
+}
+
+/// The four tables of 01: 7 (level 1, c to d, 100), 3 (1, a to b, 50), 9 (1, e to f, 10), 4 (2, d to e, 30).
+pub fn four_tables() -> (Vec<u64>, Vec<u64>) {
+    let rows: [[u64; 7]; 4] = [[7, 1, 100, 2, 1, 3, 1], [3, 1, 50, 0, 1, 1, 1], [9, 1, 10, 4, 1, 5, 1], [4, 2, 30, 3, 1, 4, 1]];
+    (rows.concat(), (97..103).collect())
+}
+
+fn many_tables(n: u64) -> Vec<u64> {
+    (0..n).flat_map(|i| [i, i % 16, 10, 0, 1, 1, 1]).collect()
+}
+
+fn generation() -> Question {
+    let (tables, keys) = four_tables();
+    ask!("generate_candidates", tables, keys, 1, vec![1u64, 100], room(24), room(9))
+}
+
+fn estimation() -> Question {
+    let (tables, _) = four_tables();
+    let cands: Vec<u64> = [[2, 1, 1, 2, 0, 1], [2, 1, 2, 2, 1, 3], [2, 1, 3, 2, 4, 4], [3, 1, 0, 2, 8, 1]].concat();
+    ask!("estimate_candidates", tables, 10, vec![1u64, 100], cands, vec![3u64, 3, 7, 4, 3, 7, 9, 4, 3], room(36))
+}
+
+fn selection() -> Question {
+    let cands: Vec<u64> = [[2, 1, 1, 2, 0, 1], [2, 1, 2, 2, 1, 3], [2, 1, 3, 2, 4, 4], [3, 1, 0, 2, 8, 1]].concat();
+    let e = |input: u64, overlap: u64, rewrite: u64| vec![input, overlap, rewrite, input, 0, 7, 0, f64::min(input as f64 / 60.0, 1.0).to_bits(), 0];
+    ask!("pick_best_cause_aware", 0, ONE, 0, 0, 0, 0, cands, [e(50, 0, 50), e(150, 30, 180), e(160, 30, 190), e(50, 0, 0)].concat())
+}
+
+fn observing(engine: bool) -> Question {
+    let s = State::fresh(1000);
+    if engine { ask!("observe_engine", s.words(), 2000, 3, 4, 0, 1, 100, 10, 5, 200, 100) } else { ask!("observe", s.words(), 2000, 3, 4, 0, 0, 1) }
+}
+
+fn decision() -> Vec<u64> {
+    vec![0, 0, ONE, 0, 2, 3, 4, 2, 1, 3, 190, 0, ONE, 0]
+}
+
+pub fn all() -> Vec<Question> {
+    let mut out = vec![];
+    for engine in [false, true] {
+        let mut ways: Vec<(u64, fn(&mut Question))> = vec![
+            (1, |q| word(q, 11, 3)),
+            (1, |q| word(q, 12, 1)),
+            (1, |q| word(q, 13, 1)),
+            (2, |q| set(q, 2, LARGE + 1)),
+            (2, |q| set(q, 3, LARGE + 1)),
+            (2, |q| set(q, if q.name == "observe" { 6 } else { 5 }, LARGE + 1)),
+        ];
+        if engine {
+            ways.push((2, |q| set(q, 9, LARGE)));
+            ways.push((2, |q| set(q, 6, LARGE + 16)));
+            ways.push((3, |q| {
+                set(q, 9, MAX);
+                word(q, 18, MAX - 5);
+            }));
+        }
+        ways.push((3, |q| word(q, 14, MAX - 999)));
+        ways.push((3, |q| word(q, 20, MAX)));
+        out.extend(Faults { good: observing(engine), ways }.questions());
+    }
+    // refusal 1's table, just inside and just outside, in each mode
+    for (mode, top) in [(0u64, 2u64), (1, 3), (2, 2)] {
+        for streak in top..=top + 1 {
+            for other in 0..3usize {
+                let mut q = observing(false);
+                word(&mut q, 0, mode);
+                word(&mut q, 11 + mode as usize, streak);
+                if other != mode as usize {
+                    out.push(q.clone());
+                    word(&mut q, 11 + other, 1);
+                }
+                out.push(q);
+            }
+        }
+    }
+    // counts of 2^53 pass; switches and each time at the top; a clock that goes back
+    for engine in [false, true] {
+        for i in [2, 3, if engine { 5 } else { 6 }] {
+            let mut q = observing(engine);
+            set(&mut q, i, LARGE);
+            out.push(q);
+        }
+        for mode in 0..3u64 {
+            for (time, now) in [(MAX - 1000, 2000), (MAX - 999, 2000), (MAX, 1000), (MAX, 999), (MAX, 1001), (0, 0), (0, MAX)] {
+                let mut q = observing(engine);
+                word(&mut q, 0, mode);
+                word(&mut q, 14 + mode as usize, time);
+                set(&mut q, 1, now);
+                out.push(q.clone());
+                word(&mut q, 20, MAX);
+                set(&mut q, 2, 0);
+                out.push(q);
+            }
+        }
+    }
+    // the exact probe sum: past 2^64 - 1 with a delta of 2^53 and of one more
+    for last in [MAX - LARGE + 1, MAX - LARGE + 2, MAX - LARGE, MAX] {
+        for probed in [(MAX, 0), (MAX, 1), (MAX, 2), (MAX, MAX), (1 << 63, 1 << 63)] {
+            let mut q = observing(true);
+            word(&mut q, 18, last);
+            set(&mut q, 9, probed.0);
+            set(&mut q, 10, probed.1);
+            out.push(q);
+        }
+    }
+    let snapshot = ask!("snapshot", State::fresh(1000).words(), 2_001_000);
+    out.extend(
+        Faults { good: snapshot, ways: vec![(2, |q| word(q, 21, LARGE + 1)), (2, |q| word(q, 22, LARGE + 1)), (2, |q| word(q, 26, LARGE + 1)), (3, |q| word(q, 14, MAX - 1_999_999))] }.questions(),
+    );
+    for (i, n) in [(21, LARGE), (22, LARGE), (26, LARGE), (14, MAX - 2_000_000)] {
+        let mut q = ask!("snapshot", State::fresh(1000).words(), 2_001_000);
+        word(&mut q, i, n);
+        out.push(q);
+    }
+    for name in ["with_trivial_move", "record_trivial_move"] {
+        for moves in [0, MAX - 1, MAX] {
+            let mut q = ask!(name, State::fresh(0).words(), MAX);
+            word(&mut q, 23, moves);
+            word(&mut q, 24, moves);
+            out.push(q);
+        }
+    }
+    for name in ["with_outcome", "record_outcome"] {
+        let good = ask!(name, State::fresh(0).words(), 100, 120);
+        out.extend(Faults { good, ways: vec![(2, |q| set(q, 1, LARGE + 1)), (2, |q| set(q, 2, LARGE + 1)), (3, |q| word(q, 26, MAX))] }.questions());
+        for (p, a) in [(LARGE, LARGE), (0, LARGE), (LARGE, 0), (0, 0)] {
+            out.push(ask!(name, State::fresh(0).words(), p, a));
+        }
+    }
+    out.extend(
+        Faults {
+            good: generation(),
+            ways: vec![
+                (4, |q| *list(q, 0) = many_tables(1025)),
+                (4, |q| *list(q, 3) = vec![1; 34]),
+                (5, |q| list(q, 0).push(1)),
+                (5, |q| list(q, 3).push(1)),
+                (5, |q| list(q, 0)[1] = 1 << 32),
+                (5, |q| list(q, 0)[2] = (1 << 40) + 1),
+                (5, |q| list(q, 0)[3] = 6),
+                (5, |q| (list(q, 0)[5], list(q, 0)[6]) = (7, 0)),
+                (5, |q| (list(q, 0)[3], list(q, 0)[4]) = (MAX, MAX)),
+                (6, |q| list(q, 3)[0] = (1 << 32) - 1),
+                (9, |q| shorten(q, 4)),
+                (9, |q| shorten(q, 5)),
+            ],
+        }
+        .questions(),
+    );
+    let (_, keys) = four_tables();
+    out.push(ask!("generate_candidates", many_tables(1024), keys.clone(), MAX, (0..16).flat_map(|l| [l, 5]).collect::<Vec<u64>>(), room(6 * 145), room(3000)));
+    out.push(ask!("generate_candidates", many_tables(1024), keys, 1, vec![], room(12), room(200)));
+    out.push(ask!("generate_candidates", vec![], vec![], 0, vec![], vec![], vec![]));
+    for (i, n) in [(2usize, 1u64 << 40), (1, u32::MAX as u64)] {
+        let mut q = generation();
+        list(&mut q, 0)[i] = n;
+        out.push(q);
+    }
+    out.extend(
+        Faults {
+            good: estimation(),
+            ways: vec![
+                (4, |q| *list(q, 0) = many_tables(1025)),
+                (4, |q| *list(q, 2) = vec![1; 34]),
+                (4, |q| *list(q, 3) = [3, 1, 0, 2, 0, 0].repeat(146)),
+                (4, |q| list(q, 3)[5] = 1025),
+                (5, |q| list(q, 0).push(1)),
+                (5, |q| list(q, 0)[2] = (1 << 40) + 1),
+                (5, |q| list(q, 2).push(1)),
+                (5, |q| list(q, 3).push(1)),
+                (5, |q| list(q, 3)[0] = 4),
+                (5, |q| list(q, 3)[0] = 0),
+                (5, |q| list(q, 3)[1] = 1 << 32),
+                (5, |q| list(q, 3)[2] = 9),
+                (5, |q| list(q, 3)[2] = 0),
+                (5, |q| list(q, 3)[4] = 9),
+                (5, |q| (list(q, 3)[4], list(q, 3)[5]) = (10, 0)),
+                (6, |q| list(q, 2)[0] = (1 << 32) - 1),
+                (2, |q| set(q, 1, LARGE + 1)),
+                (9, |q| shorten(q, 5)),
+            ],
+        }
+        .questions(),
+    );
+    let mut limits = estimation();
+    *list(&mut limits, 3) = [3, 1, 0, 2, 0, 9].repeat(145);
+    *list(&mut limits, 5) = room(9 * 145);
+    set(&mut limits, 1, LARGE);
+    out.push(limits.clone());
+    *list(&mut limits, 4) = vec![3; 1024];
+    list(&mut limits, 3)[5] = 1024;
+    out.push(limits);
+    out.push(ask!("estimate_candidates", vec![], LARGE + 1, vec![], vec![], vec![], vec![]));
+    out.extend(
+        Faults {
+            good: selection(),
+            ways: vec![
+                (4, |q| *list(q, 6) = [3, 1, 0, 2, 0, 0].repeat(146)),
+                (5, |q| list(q, 6).push(1)),
+                (5, |q| list(q, 7).push(1)),
+                (5, |q| list(q, 7).truncate(27)),
+                (5, |q| list(q, 6)[0] = 4),
+                (5, |q| list(q, 6)[2] = 9),
+                (7, |q| set(q, 0, ONE + 1)),
+                (7, |q| set(q, 1, 0x7ff8000000000001)),
+                (7, |q| set(q, 2, 0x8000000000000001)),
+                (8, |q| list(q, 7)[6] = ONE + 1),
+                (8, |q| list(q, 7)[7] = 0xfff0000000000001),
+                (8, |q| list(q, 7)[8] = 0x8000000000000001),
+                (8, |q| list(q, 7)[2] = (1 << 50) + 1),
+                (8, |q| list(q, 7)[5] = LARGE + 1),
+            ],
+        }
+        .questions(),
+    );
+    let spoilt: [fn(&mut Question); 6] = [
+        |q| list(q, 7)[2] = 1 << 50,
+        |q| list(q, 7)[5] = LARGE,
+        |q| list(q, 7)[6] = 1 << 63,
+        |q| set(q, 0, 1 << 63),
+        |q| (set(q, 3, 1), set(q, 4, 1), set(q, 5, 2)).2,
+        |q| (set(q, 3, 1), set(q, 4, 1), set(q, 5, 3)).2,
+    ];
+    for change in spoilt {
+        let mut q = selection();
+        change(&mut q);
+        out.push(q);
+    }
+    let full = (0..145u64).flat_map(|i| [2, i % 5, 1 + i % 8, 1, 0, 0]).collect::<Vec<u64>>();
+    out.push(ask!("pick_best_cause_aware", 0, ONE, 0, 0, 0, 0, full, [5, 5, 10, 5, 0, 3, 0, ONE, 0].repeat(145)));
+    for (first, count, length) in [(4095, 4096, 57344), (4096, 0, 57344), (0, 4097, 57344), (0, 0, 57343), (0, 0, 57345), (4095, 1, 57344), (4095, 0, 57344), (17, 4096, 57344)] {
+        for sequence in [0, MAX - 1, MAX] {
+            out.push(ask!("record_decision", first, count, sequence, length, 12345, decision()));
+            for room in [14 * count.min(4096u64), (14 * count.min(4096u64)).saturating_sub(1)] {
+                out.push(ask!("recent_decisions", first, count, sequence, length, 777, room, 99));
+            }
+        }
+    }
+    for (first, count, additions) in [(0, 0, 1), (0, 0, 4096), (0, 0, 4097), (0, 0, 8192), (4095, 0, 2), (4095, 4096, 1), (4000, 100, 4100)] {
+        out.push(ask!("log_run", first, count, 0, 5, additions));
+    }
+    for i in 0..14 {
+        for n in [3, 4, 1 << 32, u32::MAX as u64] {
+            let mut w = decision();
+            w[i] = n;
+            out.push(ask!("of_words", w));
+        }
+    }
+    out.push(ask!("of_words", vec![]));
+    out.push(ask!("of_words", vec![0; 13]));
+    out.push(ask!("of_words", vec![0; 15]));
+    out
+}
