@@ -46,11 +46,12 @@ struct Comparison {
     near_differ: Vec<String>,
     began: Instant,
     told: u64,
+    skip: Vec<String>,
 }
 
 impl Comparison {
-    fn new(port: Option<Port>) -> Comparison {
-        Comparison { port, batch: vec![], counts: BTreeMap::new(), near_agree: 0, near_differ: vec![], began: Instant::now(), told: 0 }
+    fn new(port: Option<Port>, skip: Vec<String>) -> Comparison {
+        Comparison { skip, port, batch: vec![], counts: BTreeMap::new(), near_agree: 0, near_differ: vec![], began: Instant::now(), told: 0 }
     }
 
     fn total(&self) -> u64 {
@@ -59,6 +60,9 @@ impl Comparison {
 
     /// One question: the rules against the original now, against the port with its batch.
     fn compare(&mut self, q: Question) {
+        if self.skip.contains(&q.name.to_string()) {
+            return;
+        }
         let line = rules::answer(&q);
         match original::holds(&q, &line, OWN_LOG) {
             Ok(Seen::Same) => {}
@@ -157,8 +161,8 @@ fn simpler(q: &Question) -> Vec<Question> {
     out
 }
 
-/// The port's answers stand in CALLS; a call that `answers` does not know yet is left out by name.
-fn pass(c: &mut Comparison, seed: u64, each: u64, runs: u64, tables: u32, skip: &[String]) {
+/// A pass: limits and small cases in full, runs of calls, then so many questions to each call.
+fn pass(c: &mut Comparison, seed: u64, each: u64, runs: u64, tables: u32) {
     let mut dice = Dice(seed);
     for q in limits::all().into_iter().chain(runs::all_turns()) {
         c.compare(q);
@@ -185,8 +189,8 @@ fn pass(c: &mut Comparison, seed: u64, each: u64, runs: u64, tables: u32, skip: 
         }
     }
     for i in 0..each {
-        for call in CALLS.iter().filter(|n| !skip.contains(&n.to_string())) {
-            if matches!(*call, "record_decision" | "recent_decisions") && i % 50 != 0 {
+        for call in CALLS {
+            if matches!(call, "record_decision" | "recent_decisions") && i % 50 != 0 {
                 continue;
             }
             let q = dice.question(call, i % 3 == 0);
@@ -216,7 +220,7 @@ fn freeze(folder: &str, seed: u64, skip: &[String]) {
             }
         }
     }
-    let mut c = Comparison::new(None);
+    let mut c = Comparison::new(None, vec![]);
     let mut lines = String::new();
     let mut texts = String::new();
     for q in all.into_iter().filter(|q| !skip.contains(&q.name.to_string())) {
@@ -241,10 +245,10 @@ fn main() {
     let skip: Vec<String> = value("--skip").map(|s| s.split(',').map(str::to_string).collect()).unwrap_or_default();
     let port = value("--answers").map(|command| Port::start(&command));
     println!("seed {seed}, the original with {} logarithm", if OWN_LOG { "its own" } else { "the port's" });
-    let mut c = Comparison::new(port);
+    let mut c = Comparison::new(port, skip.clone());
     match args.first().map(String::as_str) {
-        Some("quick") => pass(&mut c, seed, 2000, 2000, 1, &skip),
-        Some("long") => pass(&mut c, seed, 300_000, 20_000, 3, &skip),
+        Some("quick") => pass(&mut c, seed, 2000, 2000, 1),
+        Some("long") => pass(&mut c, seed, 300_000, 20_000, 3),
         Some("freeze") => return freeze(&value("--to").expect("--to FOLDER"), seed, &skip),
         _ => {
             println!("usage: oracle quick|long|freeze [--to FOLDER] [--answers COMMAND] [--seed N] [--skip NAME,..]");
