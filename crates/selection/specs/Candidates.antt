@@ -1,8 +1,8 @@
 -- Candidates and estimates in lent words, and what makes them bad. Definitions only.
 use Prim.Native.Nat.{ℕ, _+_, _-_, _%_, _^_}
-use mathlib.Core.Bool.{Bool, true, false, not, cond, _&&_, _||_}
+use mathlib.Core.Bool.{Bool, false, not, cond, _&&_, _||_}
 use mathlib.Core.List.{List, [], _∷_}
-use lib.ListN.{length, getD}
+use lib.ListN.{length}
 use lib.Dec.{leb, ltb, eqb}
 use lib.Ieee.{Float, binary64, ofBits, le}
 use Rattle.arith.specs.Floats.{f0, f1}
@@ -52,7 +52,7 @@ abbrev pub numbersOver : Candidate → Bool
 numbersOver c = ltb 1024 (c .count)
 
 -- 5: kind 1 has level 0; kind 2 a batch length of 1 to 8, the others 0; levels go up to 2^32 - 1
-abbrev pub kindGood : Candidate → Bool
+unfoldable pub kindGood : Candidate → Bool
 kindGood c =
     cond (eqb (c .kind) 1) (eqb (c .level) 0 && eqb (c .«batch_len») 0)
     (cond (eqb (c .kind) 2) (leb (c .level) (2 ^ 32 - 1) && (leb 1 (c .«batch_len») && leb (c .«batch_len») 8))
@@ -69,10 +69,10 @@ abbrev pub brokenCandidates : List ℕ → Bool
 brokenCandidates ws = not (eqb (length ws % 6) 0) || anyOf kindBad (candidatesOf ws)
 
 -- 8: a NaN is in no range, -0 is in 0 to 1
-abbrev pub inUnit : Float → Bool
+unfoldable pub inUnit : Float → Bool
 inUnit x = le f0 x && le x f1
 
-abbrev pub estimateBad : CandidateEstimate → Bool
+unfoldable pub estimateBad : CandidateEstimate → Bool
 estimateBad e =
     not (inUnit (e .«l0_relief») && (inUnit (e .«debt_relief») && inUnit (e .«read_relief»)))
     || (ltb (2 ^ 50) (e .«estimated_rewrite_bytes») || ltb (2 ^ 53) (e .age))

@@ -1,8 +1,8 @@
 -- The choice, as the Rust's on lists (filter, last maximum), over records that carry their place. Definitions only.
 use Prim.Native.Nat.{ℕ, suc, _+_}
-use mathlib.Core.Bool.{Bool, true, false, not, cond, _&&_}
+use mathlib.Core.Bool.{Bool, cond, _&&_}
 use mathlib.Core.List.{List, [], _∷_}
-use lib.Dec.{ltb, leb, eqb}
+use lib.Dec.{ltb, eqb}
 use lib.Ieee.{Float, le, lt}
 use Rattle.arith.specs.Floats.{f1}
 use Rattle.governor.specs.declared.state.PressureVector.{PressureVector}

@@ -1,6 +1,6 @@
 -- What one candidate costs and buys, as the Rust's `estimate_candidate` has it, on lists. Definitions only.
 use Prim.Native.Nat.{ℕ, _+_, _-_, min, max}
-use mathlib.Core.Bool.{Bool, true, false, not, cond}
+use mathlib.Core.Bool.{Bool, cond}
 use mathlib.Core.List.{List, [], _∷_, _++_}
 use lib.ListN.{length, take, drop}
 use lib.Dec.{eqb}
@@ -43,13 +43,15 @@ unfoldable pub oldestOf : ℕ → List Table → ℕ
 oldestOf other [] = other
 oldestOf other (t ∷ ts) = oldestFrom (t .number) ts
 
--- the share of a level's excess that some bytes are, by the first entry with that level
+-- the share that some bytes are of a level's excess over its budget, which counts as 1 at least
+abbrev pub shareOf : ℕ → ℕ → ℕ → Float
+shareOf bytes total budget = minimumOf (div binary64 (floatOf bytes) (floatOf (max (total - budget) 1))) f1
+
+-- the share by the first entry with the level
 unfoldable pub reliefOf : List Table → List Entry → ℕ → ℕ → Float
 reliefOf ts [] level bytes = f0
 reliefOf ts (e ∷ es) level bytes =
-    cond (eqb (e .level) level)
-    (minimumOf (div binary64 (floatOf bytes) (floatOf (max (bytesOf (atLevel level ts) - e .budget) 1))) f1)
-    (reliefOf ts es level bytes)
+    cond (eqb (e .level) level) (shareOf bytes (bytesOf (atLevel level ts)) (e .budget)) (reliefOf ts es level bytes)
 
 abbrev pub isL0 : Candidate → Bool
 isL0 c = eqb (c .kind) 1

@@ -1,6 +1,6 @@
 -- The call `pick_best_cause_aware`: its refusals in 01's order and its answer; and 01's numbers for the tiers. Definitions only.
 use Prim.Native.Nat.{ℕ, _%_}
-use mathlib.Core.Bool.{Bool, not, cond, _&&_, _||_}
+use mathlib.Core.Bool.{not, cond, _&&_, _||_}
 use mathlib.Core.List.{List, [], _∷_}
 use lib.ListN.{length}
 use lib.Dec.{eqb}

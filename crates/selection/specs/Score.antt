@@ -1,5 +1,5 @@
 -- The score of an estimate under a pressure vector, each step one operation of binary64. Definitions only.
-use Prim.Native.Nat.{ℕ, max}
+use Prim.Native.Nat.{max}
 use lib.Ieee.{Float, binary64, ofBits, add, mul, div}
 use Rattle.arith.specs.Root.{rootOf}
 use Rattle.arith.specs.Logarithm.{lnOf}

@@ -1,4 +1,4 @@
-// The choice with focus.
+// What the choice answers.
 use governor::state::FocusState;
 
 pub enum SelectionTier {

@@ -1,0 +1,63 @@
+-- `replay_lines::run::replay` meets its contract.
+use Rattle.replay_lines.specs.Replay.{replayFrom}
+use Rattle.replay_lines.specs.Lines.{linesOf}
+use Rattle.governor.specs.State.{freshOf}
+use Prim.Native.Nat.{_≤_}
+use lib.ListN.{length}
+use native.Mathlib.Nat.{zero-add}
+use Rattle.replay_lines.specs.Writing.{put-whole, none-of}
+use Rattle.replay_lines.specs.Replay.Steps.{replay-over, replay-within, answered, refused}
+use denote.Ref.{now}
+use mathlib.Core.List.{[]}
+use mathlib.Core.Path.{sym, _∙_}
+use native.Mathlib.Omega.{arith}
+use borrow.Author.Needs.{needs}
+use Rattle.replay_lines.proofs.run.replay.Statement.{statement}
+use Rattle.replay_lines.proofs.run.replay.Tie as tie
+
+returns : tie.Need-returns
+returns c = answered _ _ [] (sym (replay-over (now (c .before .before .before .args .text)) (c .if1 .taken))) (omega arith)
+
+slice-relend-prefix-run : tie.Need-slice-relend-prefix-run
+slice-relend-prefix-run c = search needs
+
+slice-aggregate-run : tie.Need-slice-aggregate-run
+slice-aggregate-run c = search needs
+
+run-requires : tie.Need-run-requires
+run-requires c κs = search needs
+
+same-length : tie.Need-same-length
+same-length c = search needs
+
+returns-2 : tie.Need-returns-2
+returns-2 c = let out = now (c .before .before .before .before .before .before .before .before .args .out) in
+    let r = refused _ out _ (sym (replay-within (now (c .before .before .before .before .before .before .before .before .args .text)) (c .before .before .before .before .before .if1 .left))) (omega (arith, c .before .before .before .run .ensures .place)) in
+    (r .0, none-of (c .before .before .before .run .last .1 .0) out (c .before .before .before .run .kept .1 .0) ∙ r .1)
+
+run-requires-2 : tie.Need-run-requires-2
+run-requires-2 c κs = search needs
+
+same-length-2 : tie.Need-same-length-2
+same-length-2 c = search needs
+
+returns-3 : tie.Need-returns-3
+returns-3 c = let out = now (c .before .before .before .before .before .before .before .before .before .before .before .before .args .out) in let text = now (c .before .before .before .before .before .before .before .before .before .before .before .before .args .text) in
+    let p = rw (none-of (c .before .before .before .before .before .before .before .run .last .1 .0) out (c .before .before .before .before .before .before .before .run .kept .1 .0)) at (c .before .before .run2 .ensures) in
+    let room : length (replayFrom (freshOf 0) 1 (linesOf text)) ≤ length out = omega (arith, c .before .before .before .before .before .before .before .run .ensures .place) in
+    let a = answered _ out _ (sym (replay-within text (c .before .before .before .before .before .before .before .before .before .if1 .left))) room in
+    (rw (c .before .before .before .before .before .before .before .run .ensures .place, zero-add) (a .0), put-whole p room ∙ a .1)
+
+pub replay-spec : {M : Type 1} → statement M
+replay-spec =
+    tie.close
+    (tie.spec
+    returns
+    slice-relend-prefix-run
+    slice-aggregate-run
+    run-requires
+    same-length
+    returns-2
+    run-requires-2
+    same-length-2
+    returns-3)

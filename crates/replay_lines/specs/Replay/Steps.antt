@@ -1,0 +1,49 @@
+-- The run, one line at a time.
+use mathlib.Core.Path.{_≡_, refl}
+use Prim.Native.Nat.{ℕ, _+_, _≤_, _<_}
+use native.Mathlib.Numerals.{add-one}
+use native.Mathlib.Omega.{arith}
+use mathlib.Core.Bool.{Bool, true, false, cond}
+use mathlib.Core.List.{List, [], _∷_, _++_}
+use lib.ListN.{length, drop}
+use lib.Dec.{ltb, eqb}
+use borrow.Author.Tests.{lt-ltb, le-ltb, ltb-false}
+use Rattle.refusals.specs.First.{none, noRoom}
+use Rattle.governor.specs.State.{freshOf}
+use Rattle.governor.specs.declared.state.GovernorState.{GovernorState}
+use Rattle.replay_lines.specs.Lines.{linesOf, fieldsOf}
+use Rattle.replay_lines.specs.Replay.{lineOf, observeLine, printed, replayFrom, replayOf, replayedOf, replayOut}
+
+module _ (s : GovernorState) (n : ℕ) (ls : List (List ℕ)) where
+  pub replay-more : (l : List ℕ) (rest : List (List ℕ)) → ls ≡ l ∷ rest
+      → replayFrom s n ls ≡ printed n (observeLine s (lineOf (fieldsOf l))) ++ replayFrom (observeLine s (lineOf (fieldsOf l)) .state) (n + 1) rest
+  unfolding replayFrom
+  replay-more l rest e = rw (e, add-one)
+
+  pub replay-end : ls ≡ [] → replayFrom s n ls ≡ []
+  unfolding replayFrom
+  replay-end e = rw e
+
+module _ (bytes : List ℕ) where
+  pub replay-over : 65536 < length bytes → replayOf bytes ≡ []
+  unfolding replayOf
+  replay-over h = rw (lt-ltb _ _ h)
+
+  pub replay-within : length bytes ≤ 65536 → replayOf bytes ≡ replayFrom (freshOf 0) 1 (linesOf bytes)
+  unfolding replayOf
+  replay-within h = rw (le-ltb _ _ h)
+
+  module _ (old output : List ℕ) (is : output ≡ replayOf bytes) where
+    pub answered : length output ≤ length old → (record { refusal = none; length = length output } ≡ replayedOf bytes (length old)) × (output ++ drop (length output) old ≡ replayOut bytes old)
+    answered h = let e = rw is at (le-ltb (length old) (length output) h) in (simp (is, e), simp (is, e))
+
+    pub refused : length old < length output → (record { refusal = noRoom; length = 0 } ≡ replayedOf bytes (length old)) × (old ≡ replayOut bytes old)
+    refused h = let e = rw is at (lt-ltb (length old) (length output) h) in (simp e, simp e)
+
+-- what is answered lies within the room
+pub replayed-within : (bytes : List ℕ) (room : ℕ) → replayedOf bytes room .length ≤ room
+replayed-within bytes room = go (ltb room (length (replayOf bytes))) refl
+  where
+    go : (t : Bool) → ltb room (length (replayOf bytes)) ≡ t → cond (eqb (cond t noRoom 0) none) (length (replayOf bytes)) 0 ≤ room
+    go true e = omega arith
+    go false e = ltb-false _ _ e
