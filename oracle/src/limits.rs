@@ -296,6 +296,13 @@ pub fn all() -> Vec<Question> {
     }
     let full = (0..145u64).flat_map(|i| [2, i % 5, 1 + i % 8, 1, 0, 0]).collect::<Vec<u64>>();
     out.push(ask!("pick_best_cause_aware", 0, ONE, 0, 0, 0, 0, full, [5, 5, 10, 5, 0, 3, 0, ONE, 0].repeat(145)));
+    // two ages next to each other, so large that the units of the port's logarithm may not part them
+    for power in 40..53 {
+        for (one, other) in [(0, 1), (1, 0)] {
+            let estimate = |age: u64| [10, 0, 0, 10, 0, (1 << power) + age, 0, 0, 0];
+            out.push(ask!("pick_best_cause_aware", 0, 0, 0, 0, 0, 0, [3, 1, 0, 2, 0, 0].repeat(2), [estimate(one), estimate(other)].concat()));
+        }
+    }
     for (first, count, length) in [(4095, 4096, 57344), (4096, 0, 57344), (0, 4097, 57344), (0, 0, 57343), (0, 0, 57345), (4095, 1, 57344), (4095, 0, 57344), (17, 4096, 57344)] {
         for sequence in [0, MAX - 1, MAX] {
             out.push(ask!("record_decision", first, count, sequence, length, 12345, decision()));

@@ -15,6 +15,7 @@ mod decisions;
 #[allow(dead_code)]
 mod governor;
 mod limits;
+mod logged;
 mod make;
 mod numbers;
 mod original;
@@ -25,6 +26,7 @@ mod rules;
 mod runs;
 mod state;
 mod tables;
+mod words;
 
 use make::CALLS;
 use numbers::Dice;
@@ -99,7 +101,7 @@ impl Comparison {
 }
 
 fn fail(what: &str, q: &Question) -> ! {
-    println!("{what}\n  question: {q}");
+    println!("{what}\n  question: {q}\n  in words: {}", words::in_words(q));
     std::process::exit(1);
 }
 
@@ -188,11 +190,12 @@ fn pass(c: &mut Comparison, seed: u64, each: u64, runs: u64, tables: u32) {
             step(c, &mut run, q);
         }
     }
+    if let Err(why) = dice.logs(runs / 20) {
+        println!("the rules and the original differ: {why}");
+        std::process::exit(1);
+    }
     for i in 0..each {
         for call in CALLS {
-            if matches!(call, "record_decision" | "recent_decisions") && i % 50 != 0 {
-                continue;
-            }
             let q = dice.question(call, i % 3 == 0);
             c.compare(q);
         }
@@ -213,10 +216,12 @@ fn freeze(folder: &str, seed: u64, skip: &[String]) {
     let mut all = limits::all();
     all.extend(runs::all_turns().into_iter().step_by(5));
     for call in CALLS {
-        for i in 0..200 {
-            let q = dice.question(call, i % 20 == 0);
+        let mut kept = 0;
+        while kept < 200 {
+            let q = dice.question(call, kept % 20 == 0);
             if q.to_string().len() < 6_000 {
                 all.push(q);
+                kept += 1;
             }
         }
     }
@@ -259,7 +264,7 @@ fn main() {
         println!("{n:>9} {name}");
     }
     println!("near ties that agree: {}, that differ: {}", c.near_agree, c.near_differ.len());
-    for q in c.near_differ.iter().take(20) {
+    for q in &c.near_differ {
         println!("  {q}");
     }
     println!("{} calls compared, no difference, {:.0} s", c.total(), c.began.elapsed().as_secs_f64());

@@ -268,7 +268,7 @@ impl Dice {
 
     // ---- decisions
 
-    fn decision(&mut self) -> Vec<u64> {
+    pub fn decision(&mut self) -> Vec<u64> {
         let kind = self.below(4);
         let level = if kind >= 2 { self.number() as u32 as u64 } else { 0 };
         let length = if kind == 2 { self.number() } else { 0 };

@@ -2,8 +2,10 @@
 
 use crate::db::ReadAmpStats;
 use crate::governor as rust;
+use crate::logged::same_log;
 use crate::numbers::{alike, bits, float};
 use crate::question::Question;
+use crate::rules::numbered_decision;
 use crate::state::{Focus, Sample, State};
 use crate::tables;
 
@@ -156,6 +158,7 @@ pub fn holds(q: &Question, line: &str, own_log: bool) -> Result<Seen, String> {
         "generate_candidates" if said[0] == 0 => generated(q, &said).map(|()| Seen::Same),
         "estimate_candidates" if said[0] == 0 => estimated(q, &said).map(|()| Seen::Same),
         "pick_best_cause_aware" if said[0] == 0 => picked(q, &said, own_log),
+        "log_run" if q.numbers(0)[..3] == [0, 0, 0] => same_log((1..=q.number(4)).map(numbered_decision)).map(|()| Seen::Same),
         _ => Ok(Seen::Same),
     }
 }

@@ -195,7 +195,7 @@ fn selection(q: &Question) -> Option<String> {
 }
 
 /// The i-th decision of a `log_run` (docs/ANSWERS.md).
-fn numbered_decision(i: u64) -> Vec<u64> {
+pub fn numbered_decision(i: u64) -> Vec<u64> {
     (0..14u64)
         .map(|j| match j {
             0 => 0,
