@@ -1,8 +1,11 @@
 -- The governor's numbers: the nine that say when a mode begins and ends, the source's values of them, and 01's number for each case of an enum. Definitions only.
 use Prim.Native.Nat.{ℕ}
+use mathlib.Core.List.{List, [], _∷_}
 use lib.Ieee.{Float, binary64, ofBits}
 use Rattle.governor.specs.declared.state.GovernorMode.{GovernorMode}
 use Rattle.governor.specs.declared.state.GovernorMode.the-variants.{Balanced, ReadProtect, WriteEmergency}
+use Rattle.governor.specs.declared.state.FocusLevel.{FocusLevel}
+use Rattle.governor.specs.declared.state.FocusLevel.the-variants.{Nothing as NoLevel, Level}
 use Rattle.governor.specs.declared.pacing.PressureSource.{PressureSource}
 use Rattle.governor.specs.declared.pacing.PressureSource.the-variants.{Nothing, L0, DeepDebt, Read}
 
@@ -81,3 +84,8 @@ dominantNumber Nothing = 0
 dominantNumber L0 = 1
 dominantNumber DeepDebt = 2
 dominantNumber Read = 3
+
+-- 1 and the level, or 0 and 0
+abbrev pub focusNumbers : FocusLevel → List ℕ
+focusNumbers NoLevel = 0 ∷ 0 ∷ []
+focusNumbers (Level l) = 1 ∷ l ∷ []

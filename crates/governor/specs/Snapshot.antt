@@ -47,3 +47,8 @@ statsOf s t =
 unfoldable pub snapshotOf : GovernorState → ℕ → SnapshotAnswer
 snapshotOf s now =
     cond (eqb (snapshotFault s now) none) (Stats (statsOf s (timesOf (s .mode) (s .times) now))) (Refused (snapshotFault s now))
+
+-- the refusal's number, 0 beside figures
+abbrev pub snapshotRefusal : SnapshotAnswer → ℕ
+snapshotRefusal (Stats t) = none
+snapshotRefusal (Refused n) = n

@@ -1,6 +1,6 @@
 -- A call answers 0 and a new state, or a fault's number and the old one. So a refused call changes nothing.
 use Prim.Native.Nat.{ℕ}
-use mathlib.Core.Path.{_≡_, refl}
+use mathlib.Core.Path.{_≡_, refl, sym, subst}
 use mathlib.Core.Bool.{Bool, true, false, cond}
 use lib.Dec.{T, eqb, eqb→eq}
 use Rattle.refusals.specs.First.{none}
@@ -9,6 +9,9 @@ use Rattle.governor.specs.declared.state.Observed.{Observed}
 use Rattle.governor.specs.Numbers.{Tuning}
 use Rattle.governor.specs.Observe.{observeFault, acceptedOf, answered, observedOf}
 use Rattle.governor.specs.Engine.{engineFault, windowOf, sampleOf, engineOf}
+use Rattle.governor.specs.Clock.{timesOf}
+use Rattle.governor.specs.declared.snapshot.SnapshotAnswer.the-variants.{Stats, Refused}
+use Rattle.governor.specs.Snapshot.{snapshotFault, statsOf, snapshotOf, snapshotRefusal}
 use Rattle.governor.specs.Counters.{moveFault, trivialMoveOf, outcomeFault, outcomeOf}
 use Rattle.promises.specs.Reading.{Observation, sampled, counted}
 use Rattle.promises.specs.Calls.{answerOf}
@@ -44,3 +47,12 @@ kept G s (focus f) = λ n. absurd (n tt)
 
 pub refused-changes-nothing : (G : Tuning) (s : GovernorState) (a : Action) → ¬ (acted G s a .refusal ≡ none) → acted G s a .state ≡ s
 refused-changes-nothing G s a n = kept G s a (λ t. n (eqb→eq _ none t))
+
+-- a snapshot is refused by its fault's number, and has figures where there is none
+pub snapshot-refused : (s : GovernorState) (now : ℕ) → snapshotRefusal (snapshotOf s now) ≡ snapshotFault s now
+unfolding snapshotOf
+snapshot-refused s now = go (snapshotFault s now) (eqb (snapshotFault s now) none) refl
+  where
+    go : (n : ℕ) (b : Bool) → eqb n none ≡ b → snapshotRefusal (cond b (Stats (statsOf s (timesOf (s .mode) (s .times) now))) (Refused n)) ≡ n
+    go n true e = sym (eqb→eq n none (subst T (sym e) tt))
+    go n false e = refl

@@ -8,3 +8,4 @@ pub mod CallByCall
 pub mod Sound
 pub mod Counts
 pub mod Rows
+pub mod Written

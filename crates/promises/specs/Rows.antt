@@ -1,15 +1,22 @@
--- 01's rows marked P: one list, each row read through the contracts' own definitions. P10 joins with the choice.
+-- 01's rows marked P: one list, each row read through the contracts' own definitions.
 use Prim.Native.Nat.{ℕ}
 use mathlib.Core.Bool.{Bool, true, false, _&&_}
-use mathlib.Core.List.{List, [], _∷_, map}
+use mathlib.Core.List.{List, [], _∷_, _++_, map}
 use lib.Dec.{eqb}
 use lib.Ieee.{binary64, ofBits}
 use Rattle.governor.specs.declared.state.GovernorMode.{GovernorMode}
 use Rattle.governor.specs.declared.state.GovernorMode.the-variants.{Balanced, ReadProtect, WriteEmergency}
 use Rattle.governor.specs.declared.pressure.PressureSample.{PressureSample}
-use Rattle.governor.specs.Numbers.{source, modeNumber, dominantNumber}
+use Rattle.governor.specs.Numbers.{source, modeNumber, dominantNumber, focusNumbers}
 use Rattle.governor.specs.State.{freshOf}
 use Rattle.governor.specs.Pacing.{pacingOf, dominantOf}
+use Rattle.candidates.specs.Generate.{asked, Asked, candidateWords, numberWords}
+use Rattle.selection.specs.EstimateCall.{asked as toEstimate, Asked as ToEstimate, estimateWords}
+use Rattle.selection.specs.declared.pick.Picked.{Picked}
+use Rattle.selection.specs.declared.pick.Winner.{Winner}
+use Rattle.selection.specs.declared.pick.Winner.the-variants.{NoWinner, At}
+use Rattle.selection.specs.Choice.{noFocus}
+use Rattle.selection.specs.PickCall.{pickedOf, tierNumber}
 use Rattle.promises.specs.Reading.{sampled}
 use Rattle.promises.specs.Calls.{Call, modes}
 
@@ -21,6 +28,8 @@ pub data Row : Type 0 where
   run : List PressureSample → List ℕ → Row
   -- the vector's three components, and the dominant's number
   dominant : ℕ → ℕ → ℕ → ℕ → Row
+  -- tables with no focus before: what is lent to generation, the next number, the vector's three components; the candidates' words, the numbers, and the choice in numbers
+  choice : Asked → ℕ → ℕ → ℕ → ℕ → List ℕ → List ℕ → List ℕ → Row
 
 abbrev pub sample : ℕ → ℕ → ℕ → ℕ → PressureSample
 sample count trigger ratio probes =
@@ -41,11 +50,26 @@ equal [] (n ∷ ns) = false
 equal (m ∷ ms) [] = false
 equal (m ∷ ms) (n ∷ ns) = eqb m n && equal ms ns
 
+abbrev pub winnerNumbers : Winner → List ℕ
+winnerNumbers NoWinner = 0 ∷ 0 ∷ []
+winnerNumbers (At k) = 1 ∷ k ∷ []
+
+-- refusal, winner, focus, streak, tier
+abbrev pub choiceNumbers : Picked → List ℕ
+choiceNumbers p = p .refusal ∷ winnerNumbers (p .winner) ++ focusNumbers (p .focus .«current_focus») ++ p .focus .streak ∷ tierNumber (p .tier) ∷ []
+
+abbrev pub estimating : Asked → ℕ → ToEstimate
+estimating q next = toEstimate (q .tables) next (q .over) (candidateWords q) (numberWords q)
+
 unfoldable pub holds : Row → Bool
 holds (pause mode pressure nanoseconds) = eqb (pacingOf mode (ofBits binary64 pressure)) nanoseconds
 holds (run samples numbers) = equal (map modeNumber (modes source (freshOf 0) (map atZero samples))) numbers
 holds (dominant x y z number) =
     eqb (dominantNumber (dominantOf (record { l0 = ofBits binary64 x; «deep_debt» = ofBits binary64 y; read = ofBits binary64 z }))) number
+holds (choice q next x y z words numbers picked) =
+    equal (candidateWords q) words
+    && (equal (numberWords q) numbers
+    && equal (choiceNumbers (pickedOf (record { l0 = ofBits binary64 x; «deep_debt» = ofBits binary64 y; read = ofBits binary64 z }) noFocus (candidateWords q) (estimateWords (estimating q next)))) picked)
 
 unfoldable pub all : List Row → Bool
 all [] = true
@@ -66,6 +90,17 @@ untriggered = sample 100 0 0x7ff8000000000000 0
 
 abbrev probing : PressureSample
 probing = sample 0 4 0 0x4024000000000000
+
+-- 7 (level 1, c to d, 100), 3 (1, a to b, 50), 9 (1, e to f, 10), 4 (2, d to e, 30) over the key bytes abcdef
+abbrev fourTables : Asked
+fourTables =
+    asked
+    (7 ∷ 1 ∷ 100 ∷ 2 ∷ 1 ∷ 3 ∷ 1
+    ∷ 3 ∷ 1 ∷ 50 ∷ 0 ∷ 1 ∷ 1 ∷ 1
+    ∷ 9 ∷ 1 ∷ 10 ∷ 4 ∷ 1 ∷ 5 ∷ 1
+    ∷ 4 ∷ 2 ∷ 30 ∷ 3 ∷ 1 ∷ 4 ∷ 1
+    ∷ [])
+    (97 ∷ 98 ∷ 99 ∷ 100 ∷ 101 ∷ 102 ∷ []) 4 (1 ∷ 100 ∷ [])
 
 unfoldable pub rows : List Row
 rows =
@@ -93,4 +128,13 @@ rows =
     -- P9: (0.05, 0, 0) and (0.5, 0.5, 0.5)
     ∷ dominant 0x3fa999999999999a 0 0 0
     ∷ dominant 0x3fe0000000000000 0x3fe0000000000000 0x3fe0000000000000 1
+    -- P10: next number 10, vector (0, 1, 0)
+    ∷ choice fourTables 10 0 0x3ff0000000000000 0
+    (2 ∷ 1 ∷ 1 ∷ 2 ∷ 0 ∷ 1
+    ∷ 2 ∷ 1 ∷ 2 ∷ 2 ∷ 1 ∷ 3
+    ∷ 2 ∷ 1 ∷ 3 ∷ 2 ∷ 4 ∷ 4
+    ∷ 3 ∷ 1 ∷ 0 ∷ 2 ∷ 8 ∷ 1
+    ∷ [])
+    (3 ∷ 3 ∷ 7 ∷ 4 ∷ 3 ∷ 7 ∷ 9 ∷ 4 ∷ 3 ∷ [])
+    (0 ∷ 1 ∷ 3 ∷ 1 ∷ 1 ∷ 1 ∷ 3 ∷ [])
     ∷ []
