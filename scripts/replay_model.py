@@ -2,6 +2,7 @@
 """replay, written a second time from document 01 and the Rust, to work out what the program must print.
 
   scripts/replay_model.py <INPUT                            the output for standard input
+  scripts/replay_model.py crates/replay_rows/src/main.rt    what replay_rows must print: its file stdout
 """
 import ast
 import re
@@ -118,15 +119,17 @@ def replay(text):
 def rows(source):
     """What replay_rows prints: a heading for each row, and what is said of it."""
     string = r'(b"(?:[^"\\]|\\.)*")'
-    call = re.compile(r"^    (row|short|filled)\(\s*" + string + r",\s*" + string + r"(?:,\s*(\d+))?,?\s*\);", re.M)
+    call = re.compile(r"^    (row|lent|filled)\(\s*" + string + r",\s*" + string + r"(?:,\s*&mut \[\S+ (\d+)\])?,?\s*\);", re.M)
     for kind, *words in call.findall(source):
         name, text = (ast.literal_eval(word) for word in words[:2])
         yield b"# " + name + b"\n"
         if kind == "row":
             yield replay(text)
-        elif kind == "short":
-            # one byte too few: the refusal, and a buffer of dots that stays as it was
-            yield b"9\n" + b"." * (len(replay(text)) - 1) + b"\n"
+        elif kind == "lent":
+            # the refusal, and a buffer of dots after the call
+            size, out = int(words[2]), replay(text)
+            fits = len(out) <= size
+            yield (b"0\n" + out.ljust(size, b".") if fits else b"9\n" + b"." * size) + b"\n"
         else:
             size = int(words[2])
             out = replay((text * size)[:size])

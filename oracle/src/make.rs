@@ -8,10 +8,10 @@ use crate::state::State;
 use crate::tables;
 
 /// Every call that stands by itself, by the name that a question has.
-pub const CALLS: [&str; 59] = [
+pub const CALLS: [&str; 60] = [
     "of_bits", "minimum", "maximum", "absolute", "clamp", "truncate", "of_u64", "size", "rounded", "sqrt", "ln_1p",
     "compare", "lesser", "greater", "part", "table_count", "table_at", "entry_count", "entry_at", "first_key", "last_key",
-    "too_many_tables", "broken_tables", "too_many_entries", "broken_entries", "levels_out", "broken_keys", "level_places", "sort_level", "overlaps_at",
+    "too_many_tables", "broken_tables", "too_many_entries", "broken_entries", "levels_out", "broken_keys", "level_places", "sort_level", "overlaps_at", "insert_at",
     "pacing_delay", "dominant", "fresh", "mode", "pressure", "pressure_vector", "focus", "set_focus", "observe", "observe_engine",
     "record_candidate_chosen", "with_trivial_move", "record_trivial_move", "with_outcome", "record_outcome", "snapshot",
     "generate_candidates", "estimate_candidates", "cause_aware_score", "pick_best_cause_aware",
@@ -378,6 +378,11 @@ impl Dice {
                 let (words, keys) = self.tables(n);
                 let level = self.below(4);
                 ask!(call, words, keys, level, self.room(n as usize))
+            }
+            "insert_at" => {
+                let place = |d: &mut Dice| if d.one_in(5) { d.number() } else { d.below(9) };
+                let (n, p) = (place(self), place(self));
+                ask!(call, self.words(8), n, p, self.number())
             }
             "overlaps_at" => {
                 let (words, keys) = self.tables(3);

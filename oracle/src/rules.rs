@@ -81,6 +81,14 @@ fn table(q: &Question) -> Option<String> {
             out.iter_mut().zip(&order).for_each(|(to, p)| *to = *p as u64);
             tell!(order.len() as u64, out)
         }
+        "insert_at" => {
+            // x, then what stood from p on among the first n, each one place further; what passes the end is lost
+            let (mut out, p) = (l(0).to_vec(), n(2) as usize);
+            let end = (n(1) as usize).min(out.len());
+            let moved: Vec<u64> = std::iter::once(n(3)).chain(out[p.min(end)..end].to_vec()).collect();
+            out.iter_mut().skip(p).zip(&moved).for_each(|(to, w)| *to = *w);
+            tell!(out)
+        }
         "overlaps_at" => {
             let ts = tables::tables(l(0), &bytes(l(1)));
             let (first, last) = ts.get(n(2) as usize).map(|t| (t.first.clone(), t.last.clone())).unwrap_or_default();

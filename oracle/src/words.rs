@@ -37,6 +37,7 @@ fn names(call: &str) -> Vec<&'static str> {
         "mode" | "pressure" | "pressure_vector" | "focus" => vec!["state"],
         "level_places" => vec!["tables", "level", "places"],
         "sort_level" => vec!["tables", "key bytes", "level", "places"],
+        "insert_at" => vec!["order", "first so many", "at", "value"],
         "overlaps_at" => vec!["tables", "key bytes", "place", "low key", "high key"],
         "generate_candidates" => vec!["tables", "key bytes", "trigger", "over budget", "candidates", "numbers"],
         "estimate_candidates" => vec!["tables", "next number", "over budget", "candidates", "numbers", "estimates"],

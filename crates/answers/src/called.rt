@@ -113,6 +113,14 @@ fn crates(
     if second.known {
         return second.at;
     }
+    let third = asked_log::answered(name, shape, args, one, two, bytes, out, at);
+    if third.known {
+        return third.at;
+    }
+    let fourth = asked_selection::answered(name, shape, args, one, out, at);
+    if fourth.known {
+        return fourth.at;
+    }
     written::refused(out, at, b"name")
 }
 

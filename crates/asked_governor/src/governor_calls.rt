@@ -55,6 +55,10 @@ const WITH_TRIVIAL_MOVE: u64 = 13;
 
 const WITH_OUTCOME: u64 = 14;
 
+const RECORD_TRIVIAL_MOVE: u64 = 15;
+
+const RECORD_OUTCOME: u64 = 16;
+
 fn call_of(name: &[u8]) -> u64 {
     if check::same(name, b"pacing_delay") {
         return PACING_DELAY;
@@ -98,6 +102,12 @@ fn call_of(name: &[u8]) -> u64 {
     if check::same(name, b"with_outcome") {
         return WITH_OUTCOME;
     }
+    if check::same(name, b"record_trivial_move") {
+        return RECORD_TRIVIAL_MOVE;
+    }
+    if check::same(name, b"record_outcome") {
+        return RECORD_OUTCOME;
+    }
     0
 }
 
@@ -106,8 +116,8 @@ fn shape_of(call: u64) -> u64 {
         FRESH => asked::ONE,
         PACING_DELAY => asked::TWO,
         DOMINANT => asked::THREE,
-        SNAPSHOT | WITH_TRIVIAL_MOVE => 0b110,
-        WITH_OUTCOME => 0b1100,
+        SNAPSHOT | WITH_TRIVIAL_MOVE | RECORD_TRIVIAL_MOVE => 0b110,
+        WITH_OUTCOME | RECORD_OUTCOME => 0b1100,
         SET_FOCUS | RECORD_CANDIDATE_CHOSEN => 0b11000,
         OBSERVE => 0b11000000,
         OBSERVE_ENGINE => 0b110000000000,
@@ -250,7 +260,14 @@ fn observed(call: u64, args: &[u64; ARGS]) -> Observed {
     if call == WITH_TRIVIAL_MOVE {
         return counters::with_trivial_move(s, first);
     }
-    counters::with_outcome(s, first, question::word(args, 29))
+    if call == RECORD_TRIVIAL_MOVE {
+        return lender::moved(s, first);
+    }
+    let second = question::word(args, 29);
+    if call == WITH_OUTCOME {
+        return counters::with_outcome(s, first, second);
+    }
+    lender::outcome(s, first, second)
 }
 
 fn stats_words(g: GovernorStats) -> [u64; 14] {

@@ -1,7 +1,7 @@
 // The questions about arith and the governor.
 mod arith_calls;
 mod governor_calls;
-mod states;
+pub mod states;
 
 use asked::Told;
 use asked::question::ARGS;

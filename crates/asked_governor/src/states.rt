@@ -31,7 +31,7 @@ pub(crate) fn mode_of(n: u64) -> GovernorMode {
 }
 
 // The three numbers of a focus stand from a place on.
-pub(crate) fn is_focus(args: &[u64; ARGS], at: usize) -> bool {
+pub fn is_focus(args: &[u64; ARGS], at: usize) -> bool {
     if 1 < question::word(args, at) {
         return false;
     }
@@ -41,7 +41,7 @@ pub(crate) fn is_focus(args: &[u64; ARGS], at: usize) -> bool {
     question::word(args, question::beyond(at, 2)) <= MOST
 }
 
-pub(crate) fn focus_at(args: &[u64; ARGS], at: usize) -> FocusState {
+pub fn focus_at(args: &[u64; ARGS], at: usize) -> FocusState {
     let streak = question::small(args, question::beyond(at, 2));
     if question::word(args, at) == 0 {
         return FocusState {
@@ -75,7 +75,7 @@ pub(crate) fn is_state(args: &[u64; ARGS]) -> bool {
     question::word(args, 14) <= MOST
 }
 
-pub(crate) fn vector_at(args: &[u64; ARGS], at: usize) -> PressureVector {
+pub fn vector_at(args: &[u64; ARGS], at: usize) -> PressureVector {
     PressureVector {
         l0: question::float(args, at),
         deep_debt: question::float(args, question::beyond(at, 1)),
@@ -130,13 +130,13 @@ pub(crate) fn state(args: &[u64; ARGS]) -> GovernorState {
 }
 
 // Three numbers of an answer.
-pub(crate) struct Three {
-    pub(crate) a: u64,
-    pub(crate) b: u64,
-    pub(crate) c: u64,
+pub struct Three {
+    pub a: u64,
+    pub b: u64,
+    pub c: u64,
 }
 
-pub(crate) fn focus_words(focus: FocusState) -> Three {
+pub fn focus_words(focus: FocusState) -> Three {
     let level = focus.current_focus;
     match level {
         FocusLevel::Nothing => Three {

@@ -1,4 +1,5 @@
 -- The pause of merge work in nanoseconds, and the dominant pressure. Definitions only.
+pub mod Bounds
 use Prim.Native.Nat.{ℕ}
 use mathlib.Core.Bool.{cond}
 use lib.Ieee.{Float, binary64, sub, mul, le, toUnsigned}

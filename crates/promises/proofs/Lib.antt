@@ -9,3 +9,4 @@ pub mod Sound
 pub mod Counts
 pub mod Rows
 pub mod Written
+pub mod Drawn

@@ -13,10 +13,8 @@ use Rattle.governor.specs.Pacing.{pacingOf, dominantOf}
 use Rattle.candidates.specs.Generate.{asked, Asked, candidateWords, numberWords}
 use Rattle.selection.specs.EstimateCall.{asked as toEstimate, Asked as ToEstimate, estimateWords}
 use Rattle.selection.specs.declared.pick.Picked.{Picked}
-use Rattle.selection.specs.declared.pick.Winner.{Winner}
-use Rattle.selection.specs.declared.pick.Winner.the-variants.{NoWinner, At}
 use Rattle.selection.specs.Choice.{noFocus}
-use Rattle.selection.specs.PickCall.{pickedOf, tierNumber}
+use Rattle.selection.specs.PickCall.{pickedOf, tierNumber, winnerNumbers}
 use Rattle.promises.specs.Reading.{sampled}
 use Rattle.promises.specs.Calls.{Call, modes}
 
@@ -49,10 +47,6 @@ equal [] [] = true
 equal [] (n ∷ ns) = false
 equal (m ∷ ms) [] = false
 equal (m ∷ ms) (n ∷ ns) = eqb m n && equal ms ns
-
-abbrev pub winnerNumbers : Winner → List ℕ
-winnerNumbers NoWinner = 0 ∷ 0 ∷ []
-winnerNumbers (At k) = 1 ∷ k ∷ []
 
 -- refusal, winner, focus, streak, tier
 abbrev pub choiceNumbers : Picked → List ℕ

@@ -1,8 +1,9 @@
 -- The whole of `replay`, from bytes to bytes. Definitions only.
-use Prim.Native.Nat.{ℕ, suc}
+use Prim.Native.Nat.{ℕ, suc, _≤_}
+use mathlib.Core.Path.{_≡_}
 use mathlib.Core.Bool.{Bool, true, false, cond, _&&_}
 use mathlib.Core.List.{List, [], _∷_, _++_}
-use lib.ListN.{length, drop, getD}
+use lib.ListN.{length, take, drop, getD}
 use lib.Dec.{ltb, eqb}
 use lib.Ieee.{binary64, ofBits}
 use Rattle.refusals.specs.First.{_gives_, firstFault, none, badRecord, noRoom}
@@ -19,6 +20,7 @@ use Rattle.replay_lines.specs.declared.lines.Line.the-variants.{Observat
 use Rattle.replay_lines.specs.declared.lines.Replayed.{Replayed}
 use Rattle.replay_lines.specs.Lines.{LF, comma, linesOf, fieldsOf}
 use Rattle.replay_lines.specs.Numbers.{decimalOf, bitsOf, spelt}
+pub mod Room
 pub mod Steps
 
 abbrev pub isValue : Number → Bool
@@ -90,3 +92,7 @@ replayedOf bytes room =
 abbrev pub replayOut : List ℕ → List ℕ → List ℕ
 replayOut bytes old =
     cond (eqb (replayFault bytes (length old)) none) (replayOf bytes ++ drop (length (replayOf bytes)) old) old
+
+-- n counts bytes at the front of a list. The second part follows from the first; both are what lending `&out[..n]` asks.
+abbrev pub Counts : ℕ → List ℕ → Type 0
+Counts n out = (n ≤ length out) × (n ≡ length (take n out))

@@ -65,7 +65,7 @@ fn observed(
 }
 
 // Exactly six fields, parted by commas. Past the last comma every field is found at the end, so that two tests serve.
-pub fn line_of(line: &[u8]) -> Line
+pub(crate) fn line_of(line: &[u8]) -> Line
     ensures { λ r. ⌜ r ≡ lineOf (fieldsOf (now (line .entry))) ⌝ }
 {
     let clock_end = find(line, COMMA, 0);
@@ -95,7 +95,7 @@ pub fn line_of(line: &[u8]) -> Line
 }
 
 // Any other line counts as refusal 5, and leaves the state as it was.
-pub fn observe_line(s: GovernorState, line: Line) -> Observed
+pub(crate) fn observe_line(s: GovernorState, line: Line) -> Observed
     ensures { λ r. ⌜ r ≡ observeLine s line ⌝ }
 {
     match line {

@@ -24,7 +24,7 @@ pub struct Reader<'a> {
 }
 
 // The first place of a byte from a place on, or the text's end.
-pub fn find(text: &[u8], byte: u8, at: usize) -> usize
+pub(crate) fn find(text: &[u8], byte: u8, at: usize) -> usize
     ensures { λ r. ⌜ r ≡ findOf (now (text .entry)) byte at ⌝ }
     ensures { λ r. ⌜ r ≤ max at (length (now (text .entry))) ⌝ }
 {
@@ -54,7 +54,7 @@ fn end_before(text: &[u8], at: usize, stop: usize) -> usize
 }
 
 // The line that begins at a place.
-pub fn line_at(text: &[u8], at: usize) -> Found
+pub(crate) fn line_at(text: &[u8], at: usize) -> Found
     ensures { λ r. ⌜ r ≡ foundOf (now (text .entry)) at ⌝ }
 {
     if text.len() <= at {
@@ -75,21 +75,21 @@ pub fn line_at(text: &[u8], at: usize) -> Found
     }
 }
 
-pub fn reader_at<'a>(text: &'a [u8], at: usize) -> Reader<'a>
+pub(crate) fn reader_at<'a>(text: &'a [u8], at: usize) -> Reader<'a>
     ensures { λ r. ⌜ (r .text ≡ text .entry) × (r .at ≡ at) ⌝ }
 {
     Reader { text, at }
 }
 
 // The line at the reader's place.
-pub fn line<'a>(reader: Reader<'a>) -> Found
+pub(crate) fn line<'a>(reader: Reader<'a>) -> Found
     ensures { λ r. ⌜ r ≡ foundOf (now (reader .entry .text)) (reader .entry .at) ⌝ }
 {
     line_at(reader.text, reader.at)
 }
 
 // The same for whoever has no reader.
-pub fn next_line(text: &[u8], at: usize) -> Found
+pub(crate) fn next_line(text: &[u8], at: usize) -> Found
     ensures { λ r. ⌜ r ≡ foundOf (now (text .entry)) at ⌝ }
 {
     line(reader_at(text, at))

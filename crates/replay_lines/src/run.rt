@@ -5,7 +5,7 @@ ghost use lib.ListN.{length};
 ghost use Rattle.governor.specs.Numbers.{modeNumber, dominantNumber};
 ghost use Rattle.governor.specs.State.{freshOf};
 ghost use Rattle.replay_lines.specs.Lines.{linesOf};
-ghost use Rattle.replay_lines.specs.Replay.{printed, replayFrom, replayedOf, replayOut};
+ghost use Rattle.replay_lines.specs.Replay.{printed, replayFrom, replayedOf, replayOut, Counts};
 ghost use Rattle.replay_lines.specs.Writing.{Put};
 use crate::lines::Replayed;
 use crate::lines::line_of;
@@ -103,6 +103,7 @@ fn run(text: &[u8], out: &mut [u8]) -> usize
 pub fn replay(text: &[u8], out: &mut [u8]) -> Replayed
     ensures { λ r. ⌜ r ≡ replayedOf (now (text .entry)) (length (now (out .entry))) ⌝ }
     ensures { λ r. ⌜ now (out .exit) ≡ replayOut (now (text .entry)) (now (out .entry)) ⌝ }
+    ensures { λ r. ⌜ Counts (r .length) (now (out .exit)) ⌝ }
 {
     if MOST < text.len() {
         return Replayed {

@@ -9,5 +9,15 @@ pub mod RecordSteps
 pub mod Members
 pub mod Tally
 pub mod EstimateSteps
+pub mod Reading
+pub mod Bests
+pub mod Passes
+pub mod Tiers
+pub mod FloatRange
+pub mod ScoreRange
+pub mod TotalOrder
+pub mod LastBest
+pub mod Won
 pub mod Clear
 pub mod Accepted
+pub mod PickLaws

@@ -7,14 +7,14 @@ use crate::records;
 use crate::records::Candidate;
 use crate::records::CandidateEstimate;
 
-pub fn too_many_candidates(candidates: &[u64]) -> bool
+pub(crate) fn too_many_candidates(candidates: &[u64]) -> bool
     ensures { λ r. ⌜ r ≡ tooManyCandidates (now (candidates .entry)) ⌝ }
 {
     145 < records::candidate_count(candidates)
 }
 
 // Over 1,024 numbers in one candidate.
-pub fn numbers_over(candidates: &[u64]) -> bool
+pub(crate) fn numbers_over(candidates: &[u64]) -> bool
     ensures { λ r. ⌜ r ≡ anyOf numbersOver (candidatesOf (now (candidates .entry))) ⌝ }
 {
     let n = records::candidate_count(candidates);
@@ -30,7 +30,7 @@ pub fn numbers_over(candidates: &[u64]) -> bool
 }
 
 // Whole records, kinds, levels and batch lengths; no place is looked at.
-pub fn broken_candidates(candidates: &[u64]) -> bool
+pub(crate) fn broken_candidates(candidates: &[u64]) -> bool
     ensures { λ r. ⌜ r ≡ brokenCandidates (now (candidates .entry)) ⌝ }
 {
     if candidates.len() % 6 != 0 {
@@ -49,7 +49,7 @@ pub fn broken_candidates(candidates: &[u64]) -> bool
 }
 
 // Some place leaves the numbers, of which there are so many.
-pub fn places_out(candidates: &[u64], numbers: u64) -> bool
+pub(crate) fn places_out(candidates: &[u64], numbers: u64) -> bool
     ensures { λ r. ⌜ r ≡ anyOf (placeOut numbers) (candidatesOf (now (candidates .entry))) ⌝ }
 {
     let n = records::candidate_count(candidates);
@@ -64,7 +64,7 @@ pub fn places_out(candidates: &[u64], numbers: u64) -> bool
     false
 }
 
-pub fn estimates_bad(estimates: &[u64]) -> bool
+pub(crate) fn estimates_bad(estimates: &[u64]) -> bool
     ensures { λ r. ⌜ r ≡ anyOf estimateBad (estimatesOf (now (estimates .entry))) ⌝ }
 {
     let n = records::estimate_count(estimates);
@@ -129,7 +129,7 @@ fn in_unit(x: f64) -> bool
     false
 }
 
-pub fn all_in_unit(a: f64, b: f64, c: f64) -> bool
+pub(crate) fn all_in_unit(a: f64, b: f64, c: f64) -> bool
     ensures { λ r. ⌜ r ≡ inUnit a && (inUnit b && inUnit c) ⌝ }
 {
     if in_unit(a) {

@@ -27,14 +27,14 @@ pub struct CandidateEstimate {
 }
 
 // How many whole candidates the words are.
-pub fn candidate_count(candidates: &[u64]) -> usize
+pub(crate) fn candidate_count(candidates: &[u64]) -> usize
     ensures { λ r. ⌜ r ≡ length (candidatesOf (now (candidates .entry))) ⌝ }
 {
     candidates.len() / 6
 }
 
 // The candidate at a place, and one of zeros past the last.
-pub fn candidate_at(candidates: &[u64], place: usize) -> Candidate
+pub(crate) fn candidate_at(candidates: &[u64], place: usize) -> Candidate
     ensures { λ r. ⌜ r ≡ candidateAt (candidatesOf (now (candidates .entry))) place ⌝ }
 {
     if candidates.len() / 6 <= place {
@@ -58,13 +58,13 @@ pub fn candidate_at(candidates: &[u64], place: usize) -> Candidate
     }
 }
 
-pub fn estimate_count(estimates: &[u64]) -> usize
+pub(crate) fn estimate_count(estimates: &[u64]) -> usize
     ensures { λ r. ⌜ r ≡ length (estimatesOf (now (estimates .entry))) ⌝ }
 {
     estimates.len() / 9
 }
 
-pub fn estimate_at(estimates: &[u64], place: usize) -> CandidateEstimate
+pub(crate) fn estimate_at(estimates: &[u64], place: usize) -> CandidateEstimate
     ensures { λ r. ⌜ r ≡ estimateAt (estimatesOf (now (estimates .entry))) place ⌝ }
 {
     if estimates.len() / 9 <= place {

@@ -1,18 +1,19 @@
 -- The run, one line at a time.
-use mathlib.Core.Path.{_≡_, refl}
+use mathlib.Core.Path.{_≡_, sym}
 use Prim.Native.Nat.{ℕ, _+_, _≤_, _<_}
 use native.Mathlib.Numerals.{add-one}
 use native.Mathlib.Omega.{arith}
 use mathlib.Core.Bool.{Bool, true, false, cond}
 use mathlib.Core.List.{List, [], _∷_, _++_}
-use lib.ListN.{length, drop}
+use lib.ListN.{length, drop, length-append}
+use lib.Seq.{length-take-le}
 use lib.Dec.{ltb, eqb}
-use borrow.Author.Tests.{lt-ltb, le-ltb, ltb-false}
+use borrow.Author.Tests.{lt-ltb, le-ltb}
 use Rattle.refusals.specs.First.{none, noRoom}
 use Rattle.governor.specs.State.{freshOf}
 use Rattle.governor.specs.declared.state.GovernorState.{GovernorState}
 use Rattle.replay_lines.specs.Lines.{linesOf, fieldsOf}
-use Rattle.replay_lines.specs.Replay.{lineOf, observeLine, printed, replayFrom, replayOf, replayedOf, replayOut}
+use Rattle.replay_lines.specs.Replay.{lineOf, observeLine, printed, replayFrom, replayOf, replayedOf, replayOut, Counts}
 
 module _ (s : GovernorState) (n : ℕ) (ls : List (List ℕ)) where
   pub replay-more : (l : List ℕ) (rest : List (List ℕ)) → ls ≡ l ∷ rest
@@ -40,10 +41,13 @@ module _ (bytes : List ℕ) where
     pub refused : length old < length output → (record { refusal = noRoom; length = 0 } ≡ replayedOf bytes (length old)) × (old ≡ replayOut bytes old)
     refused h = let e = rw is at (lt-ltb (length old) (length output) h) in (simp e, simp e)
 
--- what is answered lies within the room
-pub replayed-within : (bytes : List ℕ) (room : ℕ) → replayedOf bytes room .length ≤ room
-replayed-within bytes room = go (ltb room (length (replayOf bytes))) refl
+-- what is answered lies within the buffer
+pub answer-counts : (bytes old : List ℕ) → Counts (replayedOf bytes (length old) .length) (replayOut bytes old)
+answer-counts bytes old = go (ltb (length old) (length (replayOf bytes)))
   where
-    go : (t : Bool) → ltb room (length (replayOf bytes)) ≡ t → cond (eqb (cond t noRoom 0) none) (length (replayOf bytes)) 0 ≤ room
-    go true e = omega arith
-    go false e = ltb-false _ _ e
+    front : (n : ℕ) (l : List ℕ) → n ≤ length l → Counts n l
+    front n l h = (h, sym (length-take-le n l h))
+
+    go : (t : Bool) → Counts (cond (eqb (cond t noRoom 0) none) (length (replayOf bytes)) 0) (cond (eqb (cond t noRoom 0) none) (replayOf bytes ++ drop (length (replayOf bytes)) old) old)
+    go true = front 0 old (omega arith)
+    go false = front _ _ (omega (arith, length-append (replayOf bytes) (drop (length (replayOf bytes)) old)))

@@ -1,22 +1,28 @@
 -- `replay_lines::run::replay` meets its contract.
-use Rattle.replay_lines.specs.Replay.{replayFrom}
+use Rattle.replay_lines.specs.Replay.{replayFrom, replayedOf, replayOut, Counts}
+use Rattle.replay_lines.specs.declared.lines.Replayed.{Replayed}
 use Rattle.replay_lines.specs.Lines.{linesOf}
 use Rattle.governor.specs.State.{freshOf}
-use Prim.Native.Nat.{_≤_}
+use Prim.Native.Nat.{ℕ, _≤_}
 use lib.ListN.{length}
 use native.Mathlib.Nat.{zero-add}
 use Rattle.replay_lines.specs.Writing.{put-whole, none-of}
-use Rattle.replay_lines.specs.Replay.Steps.{replay-over, replay-within, answered, refused}
+use Rattle.replay_lines.specs.Replay.Steps.{replay-over, replay-within, answered, refused, answer-counts}
 use denote.Ref.{now}
-use mathlib.Core.List.{[]}
-use mathlib.Core.Path.{sym, _∙_}
+use mathlib.Core.List.{List, []}
+use mathlib.Core.Path.{_≡_, sym, _∙_}
 use native.Mathlib.Omega.{arith}
 use borrow.Author.Needs.{needs}
 use Rattle.replay_lines.proofs.run.replay.Statement.{statement}
 use Rattle.replay_lines.proofs.run.replay.Tie as tie
 
+-- the third clause follows from the other two
+counted : (bytes old : List ℕ) (r : Replayed) (new : List ℕ) → (r ≡ replayedOf bytes (length old)) × (new ≡ replayOut bytes old)
+    → (r ≡ replayedOf bytes (length old)) × ((new ≡ replayOut bytes old) × Counts (r .length) new)
+counted bytes old r new (e, f) = (e, (f, rw (e, f) (answer-counts bytes old)))
+
 returns : tie.Need-returns
-returns c = answered _ _ [] (sym (replay-over (now (c .before .before .before .args .text)) (c .if1 .taken))) (omega arith)
+returns c = counted (now (c .before .before .before .args .text)) (now (c .before .before .before .args .out)) _ _ (answered _ _ [] (sym (replay-over (now (c .before .before .before .args .text)) (c .if1 .taken))) (omega arith))
 
 slice-relend-prefix-run : tie.Need-slice-relend-prefix-run
 slice-relend-prefix-run c = search needs
@@ -33,7 +39,7 @@ same-length c = search needs
 returns-2 : tie.Need-returns-2
 returns-2 c = let out = now (c .before .before .before .before .before .before .before .before .args .out) in
     let r = refused _ out _ (sym (replay-within (now (c .before .before .before .before .before .before .before .before .args .text)) (c .before .before .before .before .before .if1 .left))) (omega (arith, c .before .before .before .run .ensures .place)) in
-    (r .0, none-of (c .before .before .before .run .last .1 .0) out (c .before .before .before .run .kept .1 .0) ∙ r .1)
+    counted (now (c .before .before .before .before .before .before .before .before .args .text)) out _ _ (r .0, none-of (c .before .before .before .run .last .1 .0) out (c .before .before .before .run .kept .1 .0) ∙ r .1)
 
 run-requires-2 : tie.Need-run-requires-2
 run-requires-2 c κs = search needs
@@ -46,7 +52,7 @@ returns-3 c = let out = now (c .before .before .before .before .before .before .
     let p = rw (none-of (c .before .before .before .before .before .before .before .run .last .1 .0) out (c .before .before .before .before .before .before .before .run .kept .1 .0)) at (c .before .before .run2 .ensures) in
     let room : length (replayFrom (freshOf 0) 1 (linesOf text)) ≤ length out = omega (arith, c .before .before .before .before .before .before .before .run .ensures .place) in
     let a = answered _ out _ (sym (replay-within text (c .before .before .before .before .before .before .before .before .before .if1 .left))) room in
-    (rw (c .before .before .before .before .before .before .before .run .ensures .place, zero-add) (a .0), put-whole p room ∙ a .1)
+    counted text out _ _ (rw (c .before .before .before .before .before .before .before .run .ensures .place, zero-add) (a .0), put-whole p room ∙ a .1)
 
 pub replay-spec : {M : Type 1} → statement M
 replay-spec =

@@ -1,0 +1,19 @@
+-- `asked_log::seeded::fill` is safe and ends: each turn fills one word. Assumes nothing.
+use mathlib.Core.Path.{_≡_}
+use lib.ListN.{length, length-set}
+use Prim.Native.Nat.{_-_}
+use borrow.Author.Needs.{needs}
+use Rattle.asked_log.proofs.seeded.fill.Statement.{statement}
+use Rattle.asked_log.proofs.seeded.fill.Tie as tie
+
+abbrev Inv-loop : tie.InvT-loop
+Inv-loop words₀ seed word₀ i₀ words word i = length words ≡ length words₀
+
+abbrev μ-loop : tie.MeasureT-loop
+μ-loop words₀ seed word₀ i₀ words word i = length words₀ - i
+
+loop-again : tie.Need-loop-again Inv-loop μ-loop
+loop-again c = simp length-set (c .before .before .loop .inv)
+
+pub fill-spec : {M : Type 1} → statement M
+fill-spec = tie.close (tie.spec Inv-loop μ-loop (search needs) (search needs) (search needs) (search needs) (search needs) (search needs) loop-again (search needs) (search needs))

@@ -1,0 +1,3 @@
+-- What both proofs share.
+pub mod Lender
+pub mod Governor

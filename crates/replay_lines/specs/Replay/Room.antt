@@ -1,0 +1,109 @@
+-- The output for any text is at most 1,179,648 bytes long: at most 65,536 lines, each of at most 18 bytes.
+use mathlib.Core.Path.{_≡_}
+use Prim.Native.Nat.{ℕ, zero, suc, _+_, _*_, _/_, _%_, _^_, _≤_, _<_}
+use native.Mathlib.Nat.{div-lt-iff-lt-mul, pow-suc}
+use native.Mathlib.Omega.{arith}
+use mathlib.Core.Bool.{Bool, true, false, cond, not}
+use mathlib.Core.List.{List, [], _∷_, _++_}
+use lib.ListN.{length, length-append}
+use lib.Dec.{ltb, eqb}
+use lib.Ieee.{Float}
+use borrow.Author.Tests.{ltb-false, lt-ltb, le-ltb}
+use Rattle.refusals.specs.First.{none}
+use Rattle.governor.specs.declared.state.GovernorState.{GovernorState}
+use Rattle.governor.specs.declared.state.GovernorMode.{GovernorMode}
+use Rattle.governor.specs.declared.state.GovernorMode.the-variants.{Balanced, ReadProtect, WriteEmergency}
+use Rattle.governor.specs.declared.pacing.PressureSource.{PressureSource}
+use Rattle.governor.specs.declared.pacing.PressureSource.the-variants.{Nothing, L0, DeepDebt, Read}
+use Rattle.governor.specs.Numbers.{source, modeNumber, dominantNumber}
+use Rattle.governor.specs.State.{freshOf}
+use Rattle.governor.specs.Observe.{countsLarge, countersFull, observeFault, observedOf}
+use Rattle.governor.specs.Mode.{soundOf}
+use Rattle.governor.specs.Pacing.{pacingOf, dominantOf}
+use Rattle.governor.specs.Pacing.Bounds.{delay-most}
+use Rattle.replay_lines.specs.declared.lines.Line.{Line}
+use Rattle.replay_lines.specs.declared.lines.Line.the-variants.{Observation, BadLine}
+use Rattle.replay_lines.specs.Cases.{by-test}
+use Rattle.replay_lines.specs.Lines.{LF, partsFrom, withoutCR, lastLine, linesOf, fieldsOf}
+use Rattle.replay_lines.specs.Numbers.{digitsUpTo}
+use Rattle.replay_lines.specs.Replay.{five, printed, lineOf, observeLine, replayFrom, replayOf, replayedOf}
+
+-- ---- one line
+
+-- a number below 10^(j + 1) has at most j + 1 digits
+few : (j k n : ℕ) → n < 10 ^ suc j → length (digitsUpTo k n) ≤ suc j
+unfolding digitsUpTo
+few j zero n h = omega arith
+few zero (suc k) n h = rw (lt-ltb n 10 h) (omega arith)
+few (suc j) (suc k) n h =
+    by-test (λ (l : List ℕ). length l ≤ suc (suc j)) (ltb n 10) _ _ (λ _. omega arith) λ _.
+    omega (arith, length-append (digitsUpTo k (n / 10)) ((48 + n % 10) ∷ []), few j k (n / 10) (div-lt-iff-lt-mul (omega arith) .1 (rw (pow-suc 10 (suc j)) at h)))
+
+five-few : (a b c d e : ℕ) → a < 100000 → b < 10 → c < 10 → d < 10 → e < 100000 → length (five a b c d e) ≤ 18
+five-few a b c d e ha hb hc hd he =
+    simp length-append (omega (arith, few 4 19 a ha, few 0 19 b hb, few 0 19 c hc, few 0 19 d hd, few 4 19 e he))
+
+mode-few : (m : GovernorMode) → modeNumber m < 10
+mode-few Balanced = omega arith
+mode-few ReadProtect = omega arith
+mode-few WriteEmergency = omega arith
+
+dominant-few : (d : PressureSource) → dominantNumber d < 10
+dominant-few Nothing = omega arith
+dominant-few L0 = omega arith
+dominant-few DeepDebt = omega arith
+dominant-few Read = omega arith
+
+delay-few : (m : GovernorMode) (x : Float) → pacingOf m x < 100000
+delay-few Balanced x = omega (arith, delay-most Balanced x)
+delay-few ReadProtect x = omega (arith, delay-most ReadProtect x)
+delay-few WriteEmergency x = omega (arith, delay-most WriteEmergency x)
+
+fault-few : (a b c : Bool) → cond a 1 (cond b 2 (cond c 3 0)) < 10
+fault-few true b c = omega arith
+fault-few false true c = omega arith
+fault-few false false true = omega arith
+fault-few false false false = omega arith
+
+refusal-few : (s : GovernorState) (l : Line) → observeLine s l .refusal < 10
+unfolding observedOf observeFault
+refusal-few s (Observation clock p) =
+    fault-few (not (soundOf source (s .mode) (s .streaks))) (countsLarge (p .«l0_count») (p .«l0_write_stall_trigger») (p .«backlog_levels»)) (countersFull source s clock p)
+refusal-few s BadLine = omega arith
+
+printed-few : (n : ℕ) (s : GovernorState) (l : Line) → n < 100000 → length (printed n (observeLine s l)) ≤ 18
+printed-few n s l h =
+    let t = observeLine s l .state in
+    five-few n _ _ _ _ h (refusal-few s l) (mode-few (t .mode)) (dominant-few (dominantOf (t .signals .«pressure_vector»))) (delay-few (t .mode) (t .signals .«last_pressure»))
+
+-- ---- all lines
+
+run-few : (s : GovernorState) (n : ℕ) (ls : List (List ℕ)) → n + length ls ≤ 100000 → length (replayFrom s n ls) ≤ 18 * length ls
+unfolding replayFrom
+run-few s n [] h = omega arith
+run-few s n (l ∷ ls) h =
+    let o = observeLine s (lineOf (fieldsOf l)) in
+    omega (arith, length-append (printed n o) (replayFrom (o .state) (suc n) ls), printed-few n s (lineOf (fieldsOf l)) (omega arith), run-few (o .state) (suc n) ls (omega arith))
+
+last-few : (l : List ℕ) → length (lastLine l) ≤ length l
+last-few [] = omega arith
+last-few (b ∷ bs) = omega arith
+
+-- no more lines than bytes
+lines-few : (begun bytes : List ℕ) → length (partsFrom LF withoutCR lastLine begun bytes) ≤ length begun + length bytes
+unfolding partsFrom
+lines-few begun [] = omega (arith, last-few begun)
+lines-few begun (b ∷ bs) =
+    by-test (λ (ls : List (List ℕ)). length ls ≤ length begun + suc (length bs)) (eqb b LF) _ _ (λ _. omega (arith, lines-few [] bs)) λ _.
+    omega (arith, lines-few (begun ++ (b ∷ [])) bs, length-append begun (b ∷ []))
+
+pub output-most : (bytes : List ℕ) → length (replayOf bytes) ≤ 1179648
+unfolding replayOf
+output-most bytes =
+    by-test (λ (l : List ℕ). length l ≤ 1179648) (ltb 65536 (length bytes)) [] _ (λ _. omega arith) λ e.
+    let h : length (linesOf bytes) ≤ 65536 = omega (arith, lines-few [] bytes, ltb-false 65536 (length bytes) e) in
+    omega (arith, run-few (freshOf 0) 1 (linesOf bytes) (omega arith))
+
+-- a buffer of that many bytes is never refused
+pub room-enough : (bytes : List ℕ) → replayedOf bytes 1179648 .refusal ≡ none
+room-enough bytes = rw (le-ltb _ _ (output-most bytes))
