@@ -1,4 +1,4 @@
-// The questions about tables and their keys: broken keys, the places of a level, and overlaps.
+// The questions about tables and their keys: broken keys, the places of a level, an order with one more place, and overlaps.
 use asked::Told;
 use asked::question;
 use asked::question::ARGS;
@@ -16,6 +16,8 @@ const LEVEL_PLACES: u64 = 3;
 
 const SORT_LEVEL: u64 = 4;
 
+const INSERT_AT: u64 = 5;
+
 fn call_of(name: &[u8]) -> u64 {
     if check::same(name, b"broken_keys") {
         return BROKEN_KEYS;
@@ -29,6 +31,9 @@ fn call_of(name: &[u8]) -> u64 {
     if check::same(name, b"sort_level") {
         return SORT_LEVEL;
     }
+    if check::same(name, b"insert_at") {
+        return INSERT_AT;
+    }
     0
 }
 
@@ -37,7 +42,8 @@ fn shape_of(call: u64) -> u64 {
         BROKEN_KEYS => 0b111,
         OVERLAPS_AT => 0b111011,
         LEVEL_PLACES => 0b1101,
-        _ => 0b11101,
+        SORT_LEVEL => 0b11101,
+        _ => 0b11000,
     }
 }
 
@@ -196,6 +202,42 @@ fn put_places(
     )
 }
 
+fn place_at(args: &[u64; ARGS], at: usize) -> usize {
+    question::word(args, at) as usize
+}
+
+fn insert(
+    args: &[u64; ARGS],
+    order: &mut [usize],
+    room: usize,
+    out: &mut [u8; OUT],
+    at: usize,
+) -> Told {
+    if order.len() < room {
+        return asked::bad_arguments(out, at);
+    }
+    let n = question::after(args, 0);
+    let p = question::beyond(n, 1);
+    let x = question::beyond(n, 2);
+    levels::insert_at(
+        &mut order[0..room],
+        place_at(args, n),
+        place_at(args, p),
+        place_at(args, x),
+    );
+    asked::ending(put_list(&order[0..room], out, at))
+}
+
+fn put_inserted(
+    args: &[u64; ARGS],
+    order: &mut [usize; LENT],
+    out: &mut [u8; OUT],
+    at: usize,
+) -> Told {
+    let room = lay_places(question::part(args, 0), order);
+    insert(args, order, room, out, at)
+}
+
 fn put_bit(bit: u64, out: &mut [u8; OUT], at: usize) -> Told {
     if 1 < bit {
         return asked::bad_arguments(out, at);
@@ -220,6 +262,9 @@ pub(crate) fn answered(
     }
     if LEVEL_PLACES <= call {
         let mut places = [0usize; LENT];
+        if call == INSERT_AT {
+            return put_inserted(args, &mut places, out, at);
+        }
         return put_places(call, args, &mut places, bytes, out, at);
     }
     put_bit(bit_of(call, args, bytes), out, at)

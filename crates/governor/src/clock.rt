@@ -10,10 +10,11 @@ use crate::state::Times;
 fn elapsed(t: Times, now: u64) -> u64
     ensures { λ r. ⌜ r ≡ elapsedOf t now ⌝ }
 {
-    if now < t.last_transition {
+    let last = t.last_transition;
+    if now < last {
         return 0;
     }
-    now - t.last_transition
+    now - last
 }
 
 fn time_in(mode: GovernorMode, t: Times) -> u64

@@ -75,10 +75,7 @@ fn error(predicted: u64, actual: u64) -> f64
 fn outcome_fault(s: GovernorState, predicted: u64, actual: u64) -> u64
     ensures { λ r. ⌜ r ≡ outcomeFault s predicted actual ⌝ }
 {
-    if observe::is_large(predicted) {
-        return refusals::TOO_LARGE;
-    }
-    if observe::is_large(actual) {
+    if observe::is_large(predicted) | observe::is_large(actual) {
         return refusals::TOO_LARGE;
     }
     if s.counters.predicted_actual_samples == 0xffff_ffff_ffff_ffff {

@@ -107,10 +107,7 @@ fn sample(s: GovernorState, e: EngineSample, a: ReadAmpStats) -> PressureSample
 fn deltas_large(w: Window, a: ReadAmpStats) -> bool
     ensures { λ r. ⌜ r ≡ deltasLarge w a ⌝ }
 {
-    if probed_large(w, a) {
-        return true;
-    }
-    observe::is_large(resolved_since(w, a))
+    probed_large(w, a) | observe::is_large(resolved_since(w, a))
 }
 
 fn engine_fault(s: GovernorState, now: u64, e: EngineSample, a: ReadAmpStats) -> u64
@@ -120,10 +117,8 @@ fn engine_fault(s: GovernorState, now: u64, e: EngineSample, a: ReadAmpStats) ->
     if !mode::is_sound(was, s.streaks) {
         return refusals::BAD_STATE;
     }
-    if observe::counts_large(e.l0_count, e.l0_write_stall_trigger, e.backlog_levels) {
-        return refusals::TOO_LARGE;
-    }
-    if deltas_large(s.window, a) {
+    let large = observe::counts_large(e.l0_count, e.l0_write_stall_trigger, e.backlog_levels);
+    if large | deltas_large(s.window, a) {
         return refusals::TOO_LARGE;
     }
     if probe_sum_full(a) {

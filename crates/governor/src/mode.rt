@@ -15,19 +15,13 @@ pub struct Turned {
 fn emergency_now(fraction: f64, ratio: f64) -> bool
     ensures { λ r. ⌜ r ≡ hot source fraction ratio ⌝ }
 {
-    if fraction >= 0.75 {
-        return true;
-    }
-    ratio >= 3.0
+    (fraction >= 0.75) | (ratio >= 3.0)
 }
 
 fn has_recovered(fraction: f64, ratio: f64) -> bool
     ensures { λ r. ⌜ r ≡ recovered source fraction ratio ⌝ }
 {
-    if fraction <= 0.45 {
-        return ratio <= 1.5;
-    }
-    false
+    (fraction <= 0.45) & (ratio <= 1.5)
 }
 
 // One more of a streak, or none.
@@ -70,13 +64,7 @@ fn to(mode: GovernorMode) -> Turned
 fn is_own(window: u32, streak: u32, a: u32, b: u32) -> bool
     ensures { λ r. ⌜ r ≡ own window streak a b ⌝ }
 {
-    if streak < window {
-        if a == 0 {
-            return b == 0;
-        }
-        return false;
-    }
-    false
+    (streak < window) & ((a == 0) & (b == 0))
 }
 
 pub(crate) fn is_sound(mode: GovernorMode, k: Streaks) -> bool

@@ -25,13 +25,7 @@ pub(crate) fn is_large(n: u64) -> bool
 pub(crate) fn counts_large(l0_count: u64, trigger: u64, backlog: u64) -> bool
     ensures { λ r. ⌜ r ≡ countsLarge «l0_count» trigger backlog ⌝ }
 {
-    if is_large(l0_count) {
-        return true;
-    }
-    if is_large(trigger) {
-        return true;
-    }
-    is_large(backlog)
+    is_large(l0_count) | (is_large(trigger) | is_large(backlog))
 }
 
 // The mode and streaks after the observation, from a sound state.
@@ -54,10 +48,7 @@ fn turn(s: GovernorState, p: PressureSample) -> Turned
 fn switches_full(c: Counters, switched: bool) -> bool
     ensures { λ r. ⌜ r ≡ switched && full (c .«mode_switches») ⌝ }
 {
-    if switched {
-        return c.mode_switches == 0xffff_ffff_ffff_ffff;
-    }
-    false
+    switched & (c.mode_switches == 0xffff_ffff_ffff_ffff)
 }
 
 pub(crate) fn counters_full(s: GovernorState, now: u64, p: PressureSample) -> bool
@@ -67,10 +58,7 @@ pub(crate) fn counters_full(s: GovernorState, now: u64, p: PressureSample) -> bo
     let was = s.mode;
     let t = turn(s, p);
     let is = t.mode;
-    if switches_full(s.counters, mode::are_different(was, is)) {
-        return true;
-    }
-    clock::time_full(was, s.times, now)
+    switches_full(s.counters, mode::are_different(was, is)) | clock::time_full(was, s.times, now)
 }
 
 fn with_switch(mut c: Counters, switched: bool) -> Counters

@@ -1,7 +1,6 @@
 -- `governor::clock::times_after` meets its contract.
 use Rattle.governor.specs.Clock.{timesOf}
 use native.Mathlib.Omega.{arith}
-use borrow.Author.Needs.{needs}
 use Rattle.governor.proofs.clock.times_after.Statement.{statement}
 use Rattle.governor.proofs.clock.times_after.Tie as tie
 
@@ -9,19 +8,19 @@ elapsed-requires : tie.Need-elapsed-requires
 elapsed-requires c κs = tt
 
 enum-told : tie.Need-enum-told
-enum-told c = search needs
+enum-told c = c .match .keys1
 
 add-t : tie.Need-add-t
 add-t c = omega (arith, simp (c .before .enum-told .given .1) at (c .before .before .before .before .pre))
 
 enum-told-2 : tie.Need-enum-told-2
-enum-told-2 c = search needs
+enum-told-2 c = c .match .keys2
 
 add-t-2 : tie.Need-add-t-2
 add-t-2 c = omega (arith, simp (c .before .enum-told2 .given .1) at (c .before .before .before .before .pre))
 
 enum-told-3 : tie.Need-enum-told-3
-enum-told-3 c = search needs
+enum-told-3 c = c .match .keys3
 
 add-t-3 : tie.Need-add-t-3
 add-t-3 c = omega (arith, simp (c .before .enum-told3 .given .1) at (c .before .before .before .before .pre))

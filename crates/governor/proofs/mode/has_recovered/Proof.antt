@@ -1,12 +1,10 @@
 -- `governor::mode::has_recovered` meets its contract.
+use mathlib.Core.Path.{refl}
 use Rattle.governor.proofs.mode.has_recovered.Statement.{statement}
 use Rattle.governor.proofs.mode.has_recovered.Tie as tie
 
 returns : tie.Need-returns
-returns c = simp (c .if1 .taken)
-
-returns-2 : tie.Need-returns-2
-returns-2 c = simp (c .if1 .left)
+returns c = refl
 
 pub has-recovered-spec : {M : Type 1} → statement M
-has-recovered-spec = tie.close (tie.spec returns returns-2)
+has-recovered-spec = tie.close (tie.spec returns)

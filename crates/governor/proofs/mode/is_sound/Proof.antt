@@ -1,23 +1,22 @@
 -- `governor::mode::is_sound` meets its contract.
 use Rattle.governor.specs.Mode.{soundOf}
-use borrow.Author.Needs.{needs}
 use Rattle.governor.proofs.mode.is_sound.Statement.{statement}
 use Rattle.governor.proofs.mode.is_sound.Tie as tie
 
 enum-told : tie.Need-enum-told
-enum-told c = search needs
+enum-told c = c .match .keys1
 
 is-own-requires : tie.Need-is-own-requires
 is-own-requires c κs = tt
 
 enum-told-2 : tie.Need-enum-told-2
-enum-told-2 c = search needs
+enum-told-2 c = c .match .keys2
 
 is-own-requires-2 : tie.Need-is-own-requires-2
 is-own-requires-2 c κs = tt
 
 enum-told-3 : tie.Need-enum-told-3
-enum-told-3 c = search needs
+enum-told-3 c = c .match .keys3
 
 is-own-requires-3 : tie.Need-is-own-requires-3
 is-own-requires-3 c κs = tt

@@ -4,12 +4,11 @@ use Rattle.governor.specs.Mode.{turnedOf}
 use Rattle.governor.specs.Numbers.{source}
 use borrow.Author.Tests.{le-leb, lt-leb}
 use native.Mathlib.Omega.{arith}
-use borrow.Author.Needs.{needs}
 use Rattle.governor.proofs.mode.next_mode.Statement.{statement}
 use Rattle.governor.proofs.mode.next_mode.Tie as tie
 
 enum-told : tie.Need-enum-told
-enum-told c = search needs
+enum-told c = c .match .keys1
 
 has-recovered-requires : tie.Need-has-recovered-requires
 has-recovered-requires c κs = tt
@@ -32,7 +31,7 @@ unfolding turnedOf
 returns-2 c = simp (c .stay .ensures, c .before .before .before .before .enum-told .given .1, ← c .before .before .before .has-recovered .ensures, ← c .before .before .streak .ensures, lt-leb _ _ (c .before .if1 .left))
 
 enum-told-2 : tie.Need-enum-told-2
-enum-told-2 c = search needs
+enum-told-2 c = c .match .keys2
 
 emergency-now-requires : tie.Need-emergency-now-requires
 emergency-now-requires c κs = tt
@@ -62,7 +61,7 @@ unfolding turnedOf
 returns-5 c = simp (c .stay2 .ensures, c .before .before .before .before .before .enum-told2 .given .1, ← c .before .before .before .before .emergency-now .ensures, c .before .before .before .if2 .left, ← c .before .before .streak2 .ensures, lt-leb _ _ (c .before .if3 .left))
 
 enum-told-3 : tie.Need-enum-told-3
-enum-told-3 c = search needs
+enum-told-3 c = c .match .keys3
 
 emergency-now-requires-2 : tie.Need-emergency-now-requires-2
 emergency-now-requires-2 c κs = tt

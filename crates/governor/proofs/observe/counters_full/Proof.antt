@@ -12,24 +12,12 @@ are-different-requires c κs = tt
 switches-full-requires : tie.Need-switches-full-requires
 switches-full-requires c κs = tt
 
-returns : tie.Need-returns
-unfolding countersFull
-returns c = simp (← c .before .before .before .turn .ensures, ← c .before .before .are-different .ensures, ← c .before .switches-full .ensures, c .if1 .taken)
-
 time-full-requires : tie.Need-time-full-requires
 time-full-requires c κs = tt
 
-returns-2 : tie.Need-returns-2
+returns : tie.Need-returns
 unfolding countersFull
-returns-2 c = simp (← c .before .before .before .before .turn .ensures, ← c .before .before .before .are-different .ensures, ← c .before .before .switches-full .ensures, c .before .if1 .left, c .time-full .ensures)
+returns c = simp (← c .before .before .before .turn .ensures, ← c .before .before .are-different .ensures, c .before .switches-full .ensures, c .time-full .ensures)
 
 pub counters-full-spec : {M : Type 1} → statement M
-counters-full-spec =
-    tie.close
-    (tie.spec
-    turn-requires
-    are-different-requires
-    switches-full-requires
-    returns
-    time-full-requires
-    returns-2)
+counters-full-spec = tie.close (tie.spec turn-requires are-different-requires switches-full-requires time-full-requires returns)

@@ -1,6 +1,6 @@
 -- `faults::levels_out` meets its contract.
 use mathlib.Core.Path.{_≡_, refl}
-use Prim.Native.Nat.{_-_, _≤_}
+use Prim.Native.Nat.{_-_, _≤_, _^_}
 use native.Mathlib.Omega.{arith}
 use lib.ListN.{length, drop}
 use denote.Ref.{now}
@@ -29,7 +29,7 @@ entry-at-requires c κs = search needs
 
 returns : tie.Need-returns Inv-loop μ-loop
 unfolding levelsOut
-returns c = any-found levelOut (entriesOf (now (c .before .before .before .before .before .before .before .args .over))) (c .before .before .before .before .loop .i) noEntry (c .before .before .before .before .loop .inv .1) (omega arith) (rw (← (c .before .before .entry-at .ensures)) (lt-ltb _ _ (c .if1 .taken)))
+returns c = any-found levelOut (entriesOf (now (c .before .before .before .before .before .before .before .args .over))) (c .before .before .before .before .loop .i) noEntry (c .before .before .before .before .loop .inv .1) (omega arith) (rw (← (c .before .before .entry-at .ensures)) (lt-ltb (2 ^ 32 - 2) (c .before .before .entry-at .result .level) (omega arith)))
 
 add-i : tie.Need-add-i Inv-loop μ-loop
 add-i c = search needs

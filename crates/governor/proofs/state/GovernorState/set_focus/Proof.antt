@@ -1,0 +1,10 @@
+-- `governor::state::GovernorState::set_focus` meets its contract.
+use mathlib.Core.Path.{refl}
+use Rattle.governor.proofs.state.GovernorState.set_focus.Statement.{statement}
+use Rattle.governor.proofs.state.GovernorState.set_focus.Tie as tie
+
+returns : tie.Need-returns
+returns c = refl
+
+pub set-focus-spec : {M : Type 1} → statement M
+set-focus-spec = tie.close (tie.spec returns)
