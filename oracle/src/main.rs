@@ -24,6 +24,7 @@ mod question;
 mod replay;
 mod rules;
 mod runs;
+mod shrink;
 mod state;
 mod tables;
 mod words;
@@ -32,7 +33,7 @@ use make::CALLS;
 use numbers::Dice;
 use original::Seen;
 use port::Port;
-use question::{Arg, Question};
+use question::Question;
 use std::collections::BTreeMap;
 use std::io::Write;
 use std::time::Instant;
@@ -86,7 +87,7 @@ impl Comparison {
             let lines = port.ask(&texts);
             for ((q, line), got) in batch.iter().zip(&lines) {
                 if line != got {
-                    let q = smallest(port, q);
+                    let q = shrink::smallest(port, q);
                     let (line, got) = (rules::answer(&q), port.ask(&[q.to_string()]).remove(0));
                     fail(&format!("the port and the rules differ.\n  rules: {line}\n  port:  {got}"), &q);
                 }
@@ -103,64 +104,6 @@ impl Comparison {
 fn fail(what: &str, q: &Question) -> ! {
     println!("{what}\n  question: {q}\n  in words: {}", words::in_words(q));
     std::process::exit(1);
-}
-
-/// Whether the port and the rules still differ; a question that one of them can't take does not count.
-fn differs(port: &mut Port, q: &Question) -> bool {
-    let Ok(line) = std::panic::catch_unwind(|| rules::answer(q)) else { return false };
-    let got = port.ask(&[q.to_string()]).remove(0);
-    !got.starts_with('?') && got != line
-}
-
-/// The smallest question near q at which the two still differ.
-fn smallest(port: &mut Port, q: &Question) -> Question {
-    std::panic::set_hook(Box::new(|_| {}));
-    let mut best = q.clone();
-    loop {
-        let Some(smaller) = simpler(&best).into_iter().find(|s| differs(port, s)) else { break };
-        best = smaller;
-    }
-    let _ = std::panic::take_hook();
-    best
-}
-
-fn simpler(q: &Question) -> Vec<Question> {
-    let mut out = vec![];
-    let mut with = |i: usize, a: Arg| {
-        let mut s = q.clone();
-        s.args[i] = a;
-        out.push(s);
-    };
-    for (i, a) in q.args.iter().enumerate() {
-        match a {
-            Arg::Number(n) => {
-                for m in [0, n / 2, n.saturating_sub(1)] {
-                    if m < *n {
-                        with(i, Arg::Number(m));
-                    }
-                }
-            }
-            Arg::List(l) => {
-                for size in [l.len() / 2, 63, 54, 42, 9, 7, 6, 2, 1] {
-                    for at in (0..l.len()).step_by(size.max(1)) {
-                        if size > 0 && at + size <= l.len() {
-                            with(i, Arg::List([&l[..at], &l[at + size..]].concat()));
-                        }
-                    }
-                }
-                for (j, n) in l.iter().enumerate() {
-                    for m in [0, n / 2, n.saturating_sub(1)] {
-                        if m < *n {
-                            let mut l = l.clone();
-                            l[j] = m;
-                            with(i, Arg::List(l));
-                        }
-                    }
-                }
-            }
-        }
-    }
-    out
 }
 
 /// A pass: limits and small cases in full, runs of calls, then so many questions to each call.
@@ -252,7 +195,7 @@ fn main() {
     println!("seed {seed}, the original with {} logarithm", if OWN_LOG { "its own" } else { "the port's" });
     let mut c = Comparison::new(port, skip.clone());
     match args.first().map(String::as_str) {
-        Some("quick") => pass(&mut c, seed, 2000, 2000, 1),
+        Some("quick") => pass(&mut c, seed, 2000, 2000, 3),
         Some("long") => pass(&mut c, seed, 300_000, 20_000, 3),
         Some("freeze") => return freeze(&value("--to").expect("--to FOLDER"), seed, &skip),
         _ => {

@@ -180,7 +180,8 @@ impl Dice {
             _ => words as u64,
         };
         let seed = self.next();
-        (0..n).map(|i| seed.wrapping_mul(2 * i + 1)).collect()
+        // a line has at most 1,000,000 bytes, so that much room is filled with short numbers
+        (0..n).map(|i| if 20_000 < n { i % 10 } else { seed.wrapping_mul(2 * i + 1) }).collect()
     }
 
     fn generation(&mut self, large: bool) -> Question {

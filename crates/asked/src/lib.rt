@@ -1,4 +1,5 @@
 // What every crate of calls is written with: a question's arguments, and what is written of the answer (ANSWERS.md).
+pub mod names;
 pub mod question;
 pub mod written;
 

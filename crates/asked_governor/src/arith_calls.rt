@@ -33,41 +33,12 @@ const MINIMUM: u64 = 10;
 
 const MAXIMUM: u64 = 11;
 
+// A call's number is the place of its name.
 fn call_of(name: &[u8]) -> u64 {
-    if check::same(name, b"of_bits") {
-        return OF_BITS;
-    }
-    if check::same(name, b"absolute") {
-        return ABSOLUTE;
-    }
-    if check::same(name, b"clamp") {
-        return CLAMP;
-    }
-    if check::same(name, b"truncate") {
-        return TRUNCATE;
-    }
-    if check::same(name, b"of_u64") {
-        return OF_U64;
-    }
-    if check::same(name, b"sqrt") {
-        return SQRT;
-    }
-    if check::same(name, b"ln_1p") {
-        return LN_1P;
-    }
-    if check::same(name, b"size") {
-        return SIZE;
-    }
-    if check::same(name, b"rounded") {
-        return ROUNDED;
-    }
-    if check::same(name, b"minimum") {
-        return MINIMUM;
-    }
-    if check::same(name, b"maximum") {
-        return MAXIMUM;
-    }
-    0
+    asked::names::place_of(
+        name,
+        b"of_bits absolute clamp truncate of_u64 sqrt ln_1p size rounded minimum maximum",
+    )
 }
 
 // The float of a call that answers one.

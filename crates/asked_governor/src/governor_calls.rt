@@ -59,56 +59,12 @@ const RECORD_TRIVIAL_MOVE: u64 = 15;
 
 const RECORD_OUTCOME: u64 = 16;
 
+// A call's number is the place of its name.
 fn call_of(name: &[u8]) -> u64 {
-    if check::same(name, b"pacing_delay") {
-        return PACING_DELAY;
-    }
-    if check::same(name, b"dominant") {
-        return DOMINANT;
-    }
-    if check::same(name, b"fresh") {
-        return FRESH;
-    }
-    if check::same(name, b"mode") {
-        return MODE;
-    }
-    if check::same(name, b"pressure") {
-        return PRESSURE;
-    }
-    if check::same(name, b"pressure_vector") {
-        return PRESSURE_VECTOR;
-    }
-    if check::same(name, b"focus") {
-        return FOCUS;
-    }
-    if check::same(name, b"snapshot") {
-        return SNAPSHOT;
-    }
-    if check::same(name, b"set_focus") {
-        return SET_FOCUS;
-    }
-    if check::same(name, b"record_candidate_chosen") {
-        return RECORD_CANDIDATE_CHOSEN;
-    }
-    if check::same(name, b"observe") {
-        return OBSERVE;
-    }
-    if check::same(name, b"observe_engine") {
-        return OBSERVE_ENGINE;
-    }
-    if check::same(name, b"with_trivial_move") {
-        return WITH_TRIVIAL_MOVE;
-    }
-    if check::same(name, b"with_outcome") {
-        return WITH_OUTCOME;
-    }
-    if check::same(name, b"record_trivial_move") {
-        return RECORD_TRIVIAL_MOVE;
-    }
-    if check::same(name, b"record_outcome") {
-        return RECORD_OUTCOME;
-    }
-    0
+    asked::names::place_of(
+        name,
+        b"pacing_delay dominant fresh mode pressure pressure_vector focus snapshot set_focus record_candidate_chosen observe observe_engine with_trivial_move with_outcome record_trivial_move record_outcome",
+    )
 }
 
 fn shape_of(call: u64) -> u64 {

@@ -17,20 +17,9 @@ const EMPTY_LOG: u64 = 3;
 
 const KEPT_PLACE: u64 = 4;
 
+// A call's number is the place of its name.
 fn call_of(name: &[u8]) -> u64 {
-    if check::same(name, b"to_words") {
-        return TO_WORDS;
-    }
-    if check::same(name, b"of_words") {
-        return OF_WORDS;
-    }
-    if check::same(name, b"empty_log") {
-        return EMPTY_LOG;
-    }
-    if check::same(name, b"kept_place") {
-        return KEPT_PLACE;
-    }
-    0
+    asked::names::place_of(name, b"to_words of_words empty_log kept_place")
 }
 
 fn shape_of(call: u64) -> u64 {

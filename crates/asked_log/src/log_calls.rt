@@ -27,17 +27,9 @@ const SEEDED: u64 = 57345;
 
 const RUN: u64 = 1000000;
 
+// A call's number is the place of its name.
 fn call_of(name: &[u8]) -> u64 {
-    if check::same(name, b"record_decision") {
-        return RECORD_DECISION;
-    }
-    if check::same(name, b"recent_decisions") {
-        return RECENT_DECISIONS;
-    }
-    if check::same(name, b"log_run") {
-        return LOG_RUN;
-    }
-    0
+    asked::names::place_of(name, b"record_decision recent_decisions log_run")
 }
 
 fn shape_of(call: u64) -> u64 {

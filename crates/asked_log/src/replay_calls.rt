@@ -21,17 +21,9 @@ const TEXT: usize = 65537;
 // What stands for the length of a text with no room: more than any.
 const NO_TEXT: usize = 65538;
 
+// A call's number is the place of its name.
 fn call_of(name: &[u8]) -> u64 {
-    if check::same(name, b"replay") {
-        return REPLAY;
-    }
-    if check::same(name, b"decimal") {
-        return DECIMAL;
-    }
-    if check::same(name, b"bits") {
-        return BITS;
-    }
-    0
+    asked::names::place_of(name, b"replay decimal bits")
 }
 
 fn shape_of(call: u64) -> u64 {

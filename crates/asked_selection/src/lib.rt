@@ -22,17 +22,12 @@ const CAUSE_AWARE_SCORE: u64 = 2;
 
 const PICK_BEST_CAUSE_AWARE: u64 = 3;
 
+// A call's number is the place of its name.
 fn call_of(name: &[u8]) -> u64 {
-    if check::same(name, b"estimate_candidates") {
-        return ESTIMATE_CANDIDATES;
-    }
-    if check::same(name, b"cause_aware_score") {
-        return CAUSE_AWARE_SCORE;
-    }
-    if check::same(name, b"pick_best_cause_aware") {
-        return PICK_BEST_CAUSE_AWARE;
-    }
-    0
+    asked::names::place_of(
+        name,
+        b"estimate_candidates cause_aware_score pick_best_cause_aware",
+    )
 }
 
 fn shape_of(call: u64) -> u64 {

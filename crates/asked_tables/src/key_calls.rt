@@ -24,26 +24,9 @@ const FIRST_KEY: u64 = 5;
 
 const LAST_KEY: u64 = 6;
 
+// A call's number is the place of its name.
 fn call_of(name: &[u8]) -> u64 {
-    if check::same(name, b"compare") {
-        return COMPARE;
-    }
-    if check::same(name, b"lesser") {
-        return LESSER;
-    }
-    if check::same(name, b"greater") {
-        return GREATER;
-    }
-    if check::same(name, b"part") {
-        return PART;
-    }
-    if check::same(name, b"first_key") {
-        return FIRST_KEY;
-    }
-    if check::same(name, b"last_key") {
-        return LAST_KEY;
-    }
-    0
+    asked::names::place_of(name, b"compare lesser greater part first_key last_key")
 }
 
 fn shape_of(call: u64) -> u64 {

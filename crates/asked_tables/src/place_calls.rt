@@ -18,23 +18,12 @@ const SORT_LEVEL: u64 = 4;
 
 const INSERT_AT: u64 = 5;
 
+// A call's number is the place of its name.
 fn call_of(name: &[u8]) -> u64 {
-    if check::same(name, b"broken_keys") {
-        return BROKEN_KEYS;
-    }
-    if check::same(name, b"overlaps_at") {
-        return OVERLAPS_AT;
-    }
-    if check::same(name, b"level_places") {
-        return LEVEL_PLACES;
-    }
-    if check::same(name, b"sort_level") {
-        return SORT_LEVEL;
-    }
-    if check::same(name, b"insert_at") {
-        return INSERT_AT;
-    }
-    0
+    asked::names::place_of(
+        name,
+        b"broken_keys overlaps_at level_places sort_level insert_at",
+    )
 }
 
 fn shape_of(call: u64) -> u64 {

@@ -27,35 +27,12 @@ const TABLE_AT: u64 = 8;
 
 const ENTRY_AT: u64 = 9;
 
+// A call's number is the place of its name.
 fn call_of(name: &[u8]) -> u64 {
-    if check::same(name, b"table_count") {
-        return TABLE_COUNT;
-    }
-    if check::same(name, b"entry_count") {
-        return ENTRY_COUNT;
-    }
-    if check::same(name, b"too_many_tables") {
-        return TOO_MANY_TABLES;
-    }
-    if check::same(name, b"broken_tables") {
-        return BROKEN_TABLES;
-    }
-    if check::same(name, b"too_many_entries") {
-        return TOO_MANY_ENTRIES;
-    }
-    if check::same(name, b"broken_entries") {
-        return BROKEN_ENTRIES;
-    }
-    if check::same(name, b"levels_out") {
-        return LEVELS_OUT;
-    }
-    if check::same(name, b"table_at") {
-        return TABLE_AT;
-    }
-    if check::same(name, b"entry_at") {
-        return ENTRY_AT;
-    }
-    0
+    asked::names::place_of(
+        name,
+        b"table_count entry_count too_many_tables broken_tables too_many_entries broken_entries levels_out table_at entry_at",
+    )
 }
 
 fn is_faulty(call: u64, list: &[u64]) -> bool {
