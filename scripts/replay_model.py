@@ -1,10 +1,10 @@
 #!/usr/bin/env python3
 """replay, written a second time from document 01 and the Rust, to work out what the program must print.
 
-  scripts/replay_model.py <INPUT                            the output for standard input
-  scripts/replay_model.py crates/replay_rows/src/main.rt    what replay_rows must print: its file stdout
+  scripts/replay_model.py <INPUT        the output for standard input
+
+scripts/parts/replay.py has the inputs of the frozen rows.
 """
-import ast
 import re
 import struct
 import sys
@@ -116,29 +116,5 @@ def replay(text):
     return b"".join(out)
 
 
-def rows(source):
-    """What replay_rows prints: a heading for each row, and what is said of it."""
-    string = r'(b"(?:[^"\\]|\\.)*")'
-    call = re.compile(r"^    (row|lent|filled)\(\s*" + string + r",\s*" + string + r"(?:,\s*&mut \[\S+ (\d+)\])?,?\s*\);", re.M)
-    for kind, *words in call.findall(source):
-        name, text = (ast.literal_eval(word) for word in words[:2])
-        yield b"# " + name + b"\n"
-        if kind == "row":
-            yield replay(text)
-        elif kind == "lent":
-            # the refusal, and a buffer of dots after the call
-            size, out = int(words[2]), replay(text)
-            fits = len(out) <= size
-            yield (b"0\n" + out.ljust(size, b".") if fits else b"9\n" + b"." * size) + b"\n"
-        else:
-            size = int(words[2])
-            out = replay((text * size)[:size])
-            yield b"%d\n" % len(out) + b"".join(out.splitlines(True)[-1:])
-
-
 if __name__ == "__main__":
-    if len(sys.argv) == 1:
-        sys.stdout.buffer.write(replay(sys.stdin.buffer.read()))
-    else:
-        with open(sys.argv[1], encoding="utf-8") as file:
-            sys.stdout.buffer.write(b"".join(rows(file.read())))
+    sys.stdout.buffer.write(replay(sys.stdin.buffer.read()))

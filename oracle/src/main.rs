@@ -191,7 +191,7 @@ fn main() {
     let value = |name: &str| args.iter().position(|a| a == name).and_then(|i| args.get(i + 1)).cloned();
     let seed = value("--seed").map(|s| s.parse().expect("a seed is a number")).unwrap_or(20261115);
     let skip: Vec<String> = value("--skip").map(|s| s.split(',').map(str::to_string).collect()).unwrap_or_default();
-    let port = value("--answers").map(|command| Port::start(&command));
+    let port = value("--rows").map(|command| Port::start(&command));
     println!("seed {seed}, the original with {} logarithm", if OWN_LOG { "its own" } else { "the port's" });
     let mut c = Comparison::new(port, skip.clone());
     match args.first().map(String::as_str) {
@@ -199,7 +199,7 @@ fn main() {
         Some("long") => pass(&mut c, seed, 300_000, 20_000, 3),
         Some("freeze") => return freeze(&value("--to").expect("--to FOLDER"), seed, &skip),
         _ => {
-            println!("usage: oracle quick|long|freeze [--to FOLDER] [--answers COMMAND] [--seed N] [--skip NAME,..]");
+            println!("usage: oracle quick|long|freeze [--to FOLDER] [--rows COMMAND] [--seed N] [--skip NAME,..]");
             std::process::exit(2);
         }
     }

@@ -7,9 +7,9 @@ use crate::question::{Arg, Question};
 use crate::state::State;
 use crate::tables;
 
-/// Every call that stands by itself, by the name that a question has.
+/// Every call that stands by itself, by the name that a question has. `of_u64` stands three times, so that the frozen rows stay as the dice gave them.
 pub const CALLS: [&str; 60] = [
-    "of_bits", "minimum", "maximum", "absolute", "clamp", "truncate", "of_u64", "size", "rounded", "sqrt", "ln_1p",
+    "of_bits", "minimum", "maximum", "absolute", "clamp", "truncate", "of_u64", "of_u64", "of_u64", "sqrt", "ln_1p",
     "compare", "lesser", "greater", "part", "table_count", "table_at", "entry_count", "entry_at", "first_key", "last_key",
     "too_many_tables", "broken_tables", "too_many_entries", "broken_entries", "levels_out", "broken_keys", "level_places", "sort_level", "overlaps_at", "insert_at",
     "pacing_delay", "dominant", "fresh", "mode", "pressure", "pressure_vector", "focus", "set_focus", "observe", "observe_engine",
@@ -343,7 +343,7 @@ impl Dice {
         match call {
             "of_bits" | "absolute" | "clamp" | "truncate" => ask!(call, self.float()),
             "minimum" | "maximum" => ask!(call, self.float(), self.float()),
-            "of_u64" | "size" | "rounded" | "sqrt" | "ln_1p" | "fresh" => ask!(call, self.number()),
+            "of_u64" | "sqrt" | "ln_1p" | "fresh" => ask!(call, self.number()),
             "compare" | "lesser" | "greater" => ask!(call, self.bytes(6), self.bytes(6)),
             "part" => ask!(call, self.bytes(9), self.number(), self.number()),
             "table_count" | "too_many_tables" | "broken_tables" => {

@@ -1,4 +1,4 @@
-//! The port's side: the proved program `answers`, asked over a pipe.
+//! The port's side: the proved program `rows`, asked over a pipe.
 
 use std::io::{BufRead, BufReader, BufWriter, Write};
 use std::process::{Child, ChildStdin, ChildStdout, Command, Stdio};
@@ -10,7 +10,7 @@ pub struct Port {
 }
 
 impl Port {
-    /// `command` is what runs `answers` here, the words parted by spaces.
+    /// `command` is what runs `rows` here, the words parted by spaces.
     pub fn start(command: &str) -> Port {
         let mut words = command.split_whitespace();
         let mut child = Command::new(words.next().expect("a command"))
@@ -40,7 +40,7 @@ impl Port {
                 .map(|q| {
                     let mut line = String::new();
                     let n = from.read_line(&mut line).expect("an answer");
-                    assert!(n > 0, "`answers` ended before it answered: {q}");
+                    assert!(n > 0, "`rows` ended before it answered: {q}");
                     line.trim_end_matches('\n').to_string()
                 })
                 .collect()

@@ -35,11 +35,6 @@ fn arith(q: &Question) -> Option<String> {
         "clamp" => tell!(bits(x(0).clamp(0.0, 1.0))),
         "truncate" => tell!(x(0) as u64),
         "of_u64" => tell!(bits(n(0) as f64)),
-        "size" => tell!(64 - n(0).leading_zeros() as u64),
-        "rounded" => {
-            let shift = (64 - n(0).leading_zeros() as u64).saturating_sub(53);
-            tell!(((n(0) as f64 as u128) >> shift) as u64, shift)
-        }
         "sqrt" => tell!(bits(root(n(0)))),
         "ln_1p" => tell!(bits(logarithm(n(0)))),
         _ => return None,

@@ -3,6 +3,7 @@ pub mod Nan
 pub mod Absolute
 pub mod Order
 pub mod Clamp
+pub mod Range
 use mathlib.Core.Bool.{false, cond}
 use lib.Ieee.{Float, nan, inf, fin, binary64, ofBits, isNan, lt}
 

@@ -1,15 +1,8 @@
 -- The logarithm of one plus an age, of its value as a binary64, by a whole-number rule in units of 2^-44 (docs/LOGARITHM.md). Definitions only.
-pub mod Series
-pub mod Tangent
-pub mod Tail
-pub mod Rise
-pub mod Grid
 pub mod Cubic
 pub mod Rem
 pub mod Table
-pub mod Cell
 pub mod Top
-pub mod Accurate
 pub mod Mono
 pub mod Value
 use Prim.Native.Nat.{ℕ, _+_, _-_, _*_, _/_, _%_, _^_}

@@ -5,7 +5,7 @@ ghost use lib.Ieee.{toUnsigned};
 ghost use Rattle.arith.specs.Whole.{floatOf, droppedOf, keptOf};
 
 // How many binary digits n has.
-pub fn size(n: u64) -> u64
+pub(crate) fn size(n: u64) -> u64
     ensures { λ r. ⌜ r ≡ Ieee.size n ⌝ }
 {
     64 - u64::leading_zeros(n) as u64
@@ -25,7 +25,7 @@ pub struct Scaled {
     pub shift: u64,
 }
 
-pub fn rounded(n: u64) -> Scaled
+pub(crate) fn rounded(n: u64) -> Scaled
     ensures { λ r. ⌜ (r .digits ≡ keptOf n) × (r .shift ≡ droppedOf n) ⌝ }
 {
     let shift = dropped(n);

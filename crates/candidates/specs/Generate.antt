@@ -1,59 +1,68 @@
 -- The call `generate_candidates`: its refusals in 01's order, its answer, and every word of the two lent buffers. Definitions only.
 use Prim.Native.Nat.{ℕ, _+_}
 use mathlib.Core.Path.{_≡_}
-use mathlib.Core.Bool.{cond, _||_}
+use mathlib.Core.Bool.{Bool, cond, _||_}
 use mathlib.Core.List.{List, [], _∷_, _++_}
 use lib.ListN.{length, drop}
 use lib.Dec.{ltb, eqb}
-use Rattle.refusals.specs.First.{_gives_, firstFault, none, tooMany, badRecord, badLevel, noRoom}
-use Rattle.tables.specs.Tables.{tablesOf, entriesOf}
-use Rattle.tables.specs.Faults.{tooManyTables, brokenTables, brokenKeys, tooManyEntries, brokenEntries, levelsOut}
+use Rattle.refusals.specs.Refusals.{Check, _gives_, firstFault, none, tooMany, badRecord, badLevel, noRoom}
+use Rattle.records.specs.Tables.{tablesOf, entriesOf}
+use Rattle.faults.specs.Tables.{tooManyTables, brokenTables, brokenKeys, tooManyEntries, brokenEntries, levelsOut}
 use Rattle.candidates.specs.declared.Generated.{Generated}
-use Rattle.candidates.specs.Candidates.{Candidate, candidatesOf}
+use Rattle.candidates.specs.Candidates.{Offer, offersOf}
 
 -- a candidate's six words, its numbers standing from a place on in the number list
-abbrev pub sixWords : ℕ → Candidate → List ℕ
+abbrev pub sixWords : ℕ → Offer → List ℕ
 sixWords start c = c .kind ∷ c .level ∷ c .batchLen ∷ c .output ∷ start ∷ length (c .numbers) ∷ []
 
-unfoldable pub wordsFrom : ℕ → List Candidate → List ℕ
+unfoldable pub wordsFrom : ℕ → List Offer → List ℕ
 wordsFrom start [] = []
 wordsFrom start (c ∷ cs) = sixWords start c ++ wordsFrom (start + length (c .numbers)) cs
 
-unfoldable pub numbersIn : List Candidate → List ℕ
+unfoldable pub numbersIn : List Offer → List ℕ
 numbersIn [] = []
 numbersIn (c ∷ cs) = c .numbers ++ numbersIn cs
 
 -- what is lent to the call: table words, key bytes, trigger, over-budget words
-pub record Asked : Type 0 where
+pub record GenerateInput : Type 0 where
   pub tables : List ℕ
   pub keys : List ℕ
   pub trigger : ℕ
   pub over : List ℕ
 
-abbrev pub asked : List ℕ → List ℕ → ℕ → List ℕ → Asked
-asked tables keys trigger over = record { tables = tables; keys = keys; trigger = trigger; over = over }
+abbrev pub generateInput : List ℕ → List ℕ → ℕ → List ℕ → GenerateInput
+generateInput tables keys trigger over = record { tables = tables; keys = keys; trigger = trigger; over = over }
 
-abbrev pub madeOf : Asked → List Candidate
-madeOf q = candidatesOf (q .keys) (tablesOf (q .tables)) (q .trigger) (entriesOf (q .over))
+abbrev pub madeOf : GenerateInput → List Offer
+madeOf q = offersOf (q .keys) (tablesOf (q .tables)) (q .trigger) (entriesOf (q .over))
 
-abbrev pub candidateWords : Asked → List ℕ
+abbrev pub candidateWords : GenerateInput → List ℕ
 candidateWords q = wordsFrom 0 (madeOf q)
 
-abbrev pub numberWords : Asked → List ℕ
+abbrev pub numberWords : GenerateInput → List ℕ
 numberWords q = numbersIn (madeOf q)
 
--- 4, 5, 6, 9: rooms are the lengths of the two output buffers
-unfoldable pub generateFault : Asked → ℕ → ℕ → ℕ
+-- 4, 5, 6: what is wrong with the lent words
+unfoldable pub inputChecks : List ℕ → List ℕ → List ℕ → List Check
+inputChecks tables keys over =
+    (tooManyTables tables || tooManyEntries over) gives tooMany
+    ∷ (brokenTables tables || (brokenKeys (length keys) tables || brokenEntries over)) gives badRecord
+    ∷ levelsOut over gives badLevel
+    ∷ []
+
+abbrev pub inputFault : List ℕ → List ℕ → List ℕ → ℕ
+inputFault tables keys over = firstFault (inputChecks tables keys over)
+
+-- 9: rooms are the lengths of the two output buffers
+abbrev pub shortOf : GenerateInput → ℕ → ℕ → Bool
+shortOf q room₁ room₂ = ltb room₁ (length (candidateWords q)) || ltb room₂ (length (numberWords q))
+
+unfoldable pub generateFault : GenerateInput → ℕ → ℕ → ℕ
 generateFault q room₁ room₂ =
-    firstFault
-    ((tooManyTables (q .tables) || tooManyEntries (q .over)) gives tooMany
-    ∷ (brokenTables (q .tables) || (brokenKeys (length (q .keys)) (q .tables) || brokenEntries (q .over))) gives badRecord
-    ∷ levelsOut (q .over) gives badLevel
-    ∷ (ltb room₁ (length (candidateWords q)) || ltb room₂ (length (numberWords q))) gives noRoom
-    ∷ [])
+    firstFault (inputChecks (q .tables) (q .keys) (q .over) ++ (shortOf q room₁ room₂ gives noRoom ∷ []))
 
 -- the refusal with the two counts, 0 and 0 when refused
-unfoldable pub generatedOf : Asked → ℕ → ℕ → Generated
+unfoldable pub generatedOf : GenerateInput → ℕ → ℕ → Generated
 generatedOf q room₁ room₂ =
     cond (eqb (generateFault q room₁ room₂) none) (record { refusal = none; candidates = length (madeOf q); numbers = length (numberWords q) })
     (record { refusal = generateFault q room₁ room₂; candidates = 0; numbers = 0 })
@@ -63,7 +72,7 @@ abbrev pub frontOf : ℕ → List ℕ → List ℕ → List ℕ
 frontOf fault words old = cond (eqb fault none) (words ++ drop (length words) old) old
 
 -- the whole answer: the result and both buffers, from c₀ and n₀ to c₁ and n₁
-pub record Answered (q : Asked) (c₀ c₁ n₀ n₁ : List ℕ) (r : Generated) : Type 0 where
+pub record Answered (q : GenerateInput) (c₀ c₁ n₀ n₁ : List ℕ) (r : Generated) : Type 0 where
   pub result : r ≡ generatedOf q (length c₀) (length n₀)
   pub candidates : c₁ ≡ frontOf (generateFault q (length c₀) (length n₀)) (candidateWords q) c₀
   pub numbers : n₁ ≡ frontOf (generateFault q (length c₀) (length n₀)) (numberWords q) n₀

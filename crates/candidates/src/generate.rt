@@ -4,18 +4,17 @@ ghost use mathlib.Core.Bool.{false, _&&_};
 ghost use Prim.Native.Nat.{_+_, _≤_, _<_, _^_};
 ghost use lib.Dec.{leb, ltb};
 ghost use lib.ListN.{length};
-ghost use Rattle.tables.specs.Tables.{tablesOf, entriesOf};
-ghost use Rattle.tables.specs.Faults.{levelsOut};
-ghost use Rattle.tables.specs.Levels.{placesOf, byKey};
-ghost use Rattle.candidates.specs.Candidates.{l0Candidates, levelCandidates, candidatesOf};
+ghost use Rattle.records.specs.Tables.{tablesOf, entriesOf};
+ghost use Rattle.faults.specs.Tables.{levelsOut};
+ghost use Rattle.levels.specs.Levels.{placesOf, byKey};
+ghost use Rattle.candidates.specs.Candidates.{l0Offers, levelOffers, offersOf};
 ghost use Rattle.candidates.specs.Writing.{Written, Fit, start};
 use crate::batches;
+use crate::ends::Ends;
+use crate::ends::put_candidate;
 use crate::moves;
-use crate::writers;
-use crate::writers::Ends;
-use crate::writers::Head;
-use tables::levels;
-use tables::records;
+use faults::limits::MAX_TABLES;
+use records::tables;
 
 // There is some L0, and it reaches the trigger.
 fn due(count: usize, trigger: u64) -> bool
@@ -36,32 +35,25 @@ fn put_l0(
     at: Ends,
 ) -> Ends
     requires { ⌜ length (tablesOf (now tables)) ≤ 1024 ⌝ }
-    requires { ⌜ Fit at (l0Candidates (now keys) (tablesOf (now tables)) trigger) ⌝ }
-    ensures { λ r. ⌜ Written at (l0Candidates (now (keys .entry)) (tablesOf (now (tables .entry))) trigger) (now (candidates .entry)) (now (candidates .exit)) (now (numbers .entry)) (now (numbers .exit)) r ⌝ }
+    requires { ⌜ Fit at (l0Offers (now keys) (tablesOf (now tables)) trigger) ⌝ }
+    ensures { λ r. ⌜ Written at (l0Offers (now (keys .entry)) (tablesOf (now (tables .entry))) trigger) (now (candidates .entry)) (now (candidates .exit)) (now (numbers .entry)) (now (numbers .exit)) r ⌝ }
 {
-    let mut places = [0usize; 1024];
+    let mut places = [0usize; MAX_TABLES];
     let count = levels::level_places(tables, 0, &mut places);
     if !due(count, trigger) {
         return at;
     }
-    let mut next = [0usize; 1024];
+    let mut next = [0usize; MAX_TABLES];
     let below = levels::level_places(tables, 1, &mut next);
-    let h = Head {
-        kind: 1,
-        level: 0,
-        batch_len: 0,
-        output_level: 1,
-    };
-    writers::put_merged(
+    let n = writers::put_many(
         tables,
         keys,
         &places[..count],
         &next[..below],
-        h,
-        candidates,
-        numbers,
-        at,
-    )
+        &mut *numbers,
+        at.numbers,
+    );
+    put_candidate(candidates, at, 1, 0, 0, n)
 }
 
 // A level in the order of its first keys, with the next level in table order: its batches, then its moves.
@@ -76,10 +68,10 @@ fn put_ordered(
     at: Ends,
 ) -> Ends
     requires { ⌜ (level < 2 ^ 32) × (length (now order) ≤ 1024) ⌝ }
-    requires { ⌜ Fit at (levelCandidates (now keys) (tablesOf (now tables)) level (now next) (now order)) ⌝ }
-    ensures { λ r. ⌜ Written at (levelCandidates (now (keys .entry)) (tablesOf (now (tables .entry))) level (now (next .entry)) (now (order .entry))) (now (candidates .entry)) (now (candidates .exit)) (now (numbers .entry)) (now (numbers .exit)) r ⌝ }
+    requires { ⌜ Fit at (levelOffers (now keys) (tablesOf (now tables)) level (now next) (now order)) ⌝ }
+    ensures { λ r. ⌜ Written at (levelOffers (now (keys .entry)) (tablesOf (now (tables .entry))) level (now (next .entry)) (now (order .entry))) (now (candidates .entry)) (now (candidates .exit)) (now (numbers .entry)) (now (numbers .exit)) r ⌝ }
 {
-    let from = batches::seed(tables, order);
+    let from = offers::batches::seed(tables, order);
     let middle = batches::put_batches(
         tables,
         keys,
@@ -90,7 +82,7 @@ fn put_ordered(
         &mut *numbers,
         at,
     );
-    let b = moves::free_moves(tables, keys, order, next);
+    let b = offers::moves::free_moves(tables, keys, order, next);
     moves::put_moves(tables, level, b, candidates, numbers, middle)
 }
 
@@ -103,12 +95,12 @@ fn put_level(
     at: Ends,
 ) -> Ends
     requires { ⌜ (length (tablesOf (now tables)) ≤ 1024) × (level < 2 ^ 32) ⌝ }
-    requires { ⌜ Fit at (levelCandidates (now keys) (tablesOf (now tables)) level (placesOf (level + 1) (tablesOf (now tables))) (byKey (now keys) (tablesOf (now tables)) level)) ⌝ }
-    ensures { λ r. ⌜ Written at (levelCandidates (now (keys .entry)) (tablesOf (now (tables .entry))) level (placesOf (level + 1) (tablesOf (now (tables .entry)))) (byKey (now (keys .entry)) (tablesOf (now (tables .entry))) level)) (now (candidates .entry)) (now (candidates .exit)) (now (numbers .entry)) (now (numbers .exit)) r ⌝ }
+    requires { ⌜ Fit at (levelOffers (now keys) (tablesOf (now tables)) level (placesOf (level + 1) (tablesOf (now tables))) (byKey (now keys) (tablesOf (now tables)) level)) ⌝ }
+    ensures { λ r. ⌜ Written at (levelOffers (now (keys .entry)) (tablesOf (now (tables .entry))) level (placesOf (level + 1) (tablesOf (now (tables .entry)))) (byKey (now (keys .entry)) (tablesOf (now (tables .entry))) level)) (now (candidates .entry)) (now (candidates .exit)) (now (numbers .entry)) (now (numbers .exit)) r ⌝ }
 {
-    let mut order = [0usize; 1024];
+    let mut order = [0usize; MAX_TABLES];
     let count = levels::sort_level(tables, keys, level, &mut order);
-    let mut next = [0usize; 1024];
+    let mut next = [0usize; MAX_TABLES];
     let below = levels::level_places(tables, level + 1, &mut next);
     put_ordered(
         tables,
@@ -131,10 +123,10 @@ pub(crate) fn put_all(
     numbers: &mut [u64],
 ) -> Ends
     requires { ⌜ (length (tablesOf (now tables)) ≤ 1024) × (levelsOut (now over) ≡ false) ⌝ }
-    requires { ⌜ Fit start (candidatesOf (now keys) (tablesOf (now tables)) trigger (entriesOf (now over))) ⌝ }
-    ensures { λ r. ⌜ Written start (candidatesOf (now (keys .entry)) (tablesOf (now (tables .entry))) trigger (entriesOf (now (over .entry)))) (now (candidates .entry)) (now (candidates .exit)) (now (numbers .entry)) (now (numbers .exit)) r ⌝ }
+    requires { ⌜ Fit start (offersOf (now keys) (tablesOf (now tables)) trigger (entriesOf (now over))) ⌝ }
+    ensures { λ r. ⌜ Written start (offersOf (now (keys .entry)) (tablesOf (now (tables .entry))) trigger (entriesOf (now (over .entry)))) (now (candidates .entry)) (now (candidates .exit)) (now (numbers .entry)) (now (numbers .exit)) r ⌝ }
 {
-    let n = records::entry_count(over);
+    let n = tables::entry_count(over);
     let mut end = put_l0(
         tables,
         keys,
@@ -148,7 +140,7 @@ pub(crate) fn put_all(
     );
     let mut i: usize = 0;
     while i < n {
-        let e = records::entry_at(over, i);
+        let e = tables::entry_at(over, i);
         i += 1;
         end = put_level(tables, keys, e.level, &mut *candidates, &mut *numbers, end);
     }

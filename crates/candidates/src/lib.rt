@@ -2,17 +2,13 @@
 ghost use mathlib.Core.Path.{_≡_};
 ghost use mathlib.Core.Bool.{_||_};
 ghost use lib.Dec.{ltb};
-ghost use Rattle.candidates.specs.Generate.{asked, Answered};
-ghost use Rattle.candidates.specs.Refusing.{inputFault};
-use tables::faults;
+ghost use Rattle.candidates.specs.Generate.{generateInput, inputFault, Answered};
+use crate::ends::Ends;
 
 mod batches;
+mod ends;
 mod generate;
 mod moves;
-mod ranges;
-mod writers;
-
-use crate::writers::Ends;
 
 pub struct Generated {
     pub refusal: u64,
@@ -20,7 +16,7 @@ pub struct Generated {
     pub numbers: usize,
 }
 
-// A run on no words counts, and the next writes: a buffer that is short by a word is refused, and then neither is written.
+// The writer runs twice: over empty slices to count, then over the buffers. If either is too short, neither is touched.
 pub fn generate_candidates(
     tables: &[u64],
     keys: &[u8],
@@ -29,7 +25,7 @@ pub fn generate_candidates(
     candidates: &mut [u64],
     numbers: &mut [u64],
 ) -> Generated
-    ensures { λ r. ⌜ Answered (asked (now (tables .entry)) (now (keys .entry)) «l0_compaction_trigger» (now («over_budget_levels» .entry))) (now (candidates .entry)) (now (candidates .exit)) (now (numbers .entry)) (now (numbers .exit)) r ⌝ }
+    ensures { λ r. ⌜ Answered (generateInput (now (tables .entry)) (now (keys .entry)) «l0_compaction_trigger» (now («over_budget_levels» .entry))) (now (candidates .entry)) (now (candidates .exit)) (now (numbers .entry)) (now (numbers .exit)) r ⌝ }
 {
     let fault = input_fault(tables, keys, over_budget_levels);
     if fault != refusals::NONE {
@@ -84,22 +80,22 @@ fn short(need: Ends, words: usize, numbers: usize) -> bool
 fn input_fault(tables: &[u64], keys: &[u8], over: &[u64]) -> u64
     ensures { λ r. ⌜ r ≡ inputFault (now (tables .entry)) (now (keys .entry)) (now (over .entry)) ⌝ }
 {
-    if faults::too_many_tables(tables) {
+    if faults::tables::too_many_tables(tables) {
         return refusals::TOO_MANY;
     }
-    if faults::too_many_entries(over) {
+    if faults::tables::too_many_entries(over) {
         return refusals::TOO_MANY;
     }
-    if faults::broken_tables(tables) {
+    if faults::tables::broken_tables(tables) {
         return refusals::BAD_RECORD;
     }
-    if faults::broken_keys(tables, keys) {
+    if faults::tables::broken_keys(tables, keys) {
         return refusals::BAD_RECORD;
     }
-    if faults::broken_entries(over) {
+    if faults::tables::broken_entries(over) {
         return refusals::BAD_RECORD;
     }
-    if faults::levels_out(over) {
+    if faults::tables::levels_out(over) {
         return refusals::BAD_LEVEL;
     }
     refusals::NONE

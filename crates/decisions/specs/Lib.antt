@@ -1,3 +1,2 @@
--- Decisions, their words and their log.
+-- A decision and its words.
 pub mod Decision
-pub mod Log

@@ -1,21 +1,22 @@
 -- The observation of the running engine: a window over its read counters since the last one. Definitions only.
-pub mod Answers
 use Prim.Native.Nat.{ℕ, _+_, _-_, _^_}
 use mathlib.Core.Bool.{Bool, cond, not, _||_}
-use mathlib.Core.List.{[], _∷_}
+use mathlib.Core.List.{List, [], _∷_}
 use lib.Dec.{ltb}
 use lib.Ieee.{Float, binary64, div}
 use Rattle.arith.specs.Whole.{floatOf}
-use Rattle.refusals.specs.First.{_gives_, firstFault, badState, tooLarge, counterFull}
-use Rattle.governor.specs.declared.state.GovernorState.{GovernorState}
-use Rattle.governor.specs.declared.state.Observed.{Observed}
-use Rattle.governor.specs.declared.state.Window.{Window}
-use Rattle.governor.specs.declared.pressure.PressureSample.{PressureSample}
+use Rattle.counts.specs.Counts.{large, anyLarge}
+use Rattle.refusals.specs.Refusals.{Check, _gives_, firstFault, badState, tooLarge, counterFull}
+use Rattle.state.specs.declared.GovernorState.{GovernorState}
+use Rattle.state.specs.declared.Observed.{Observed}
+use Rattle.state.specs.declared.Window.{Window}
+use Rattle.pressure.specs.declared.PressureSample.{PressureSample}
 use Rattle.governor.specs.declared.engine.ReadAmpStats.{ReadAmpStats}
 use Rattle.governor.specs.declared.engine.EngineSample.{EngineSample}
-use Rattle.governor.specs.Numbers.{Tuning}
-use Rattle.governor.specs.Mode.{soundOf}
-use Rattle.governor.specs.Observe.{large, countsLarge, countersFull, acceptedOf, answered}
+use Rattle.kinds.specs.Tuning.{Tuning}
+use Rattle.modes.specs.Mode.{soundOf}
+use Rattle.governor.specs.Observe.{countersFull, acceptedOf}
+use Rattle.state.specs.State.{answered}
 
 -- exact: it may pass 2^64 - 1
 abbrev pub probedSum : ReadAmpStats → ℕ
@@ -50,13 +51,16 @@ sampleOf s e a =
       «backlog_levels» = e .«backlog_levels»;
     }
 
-unfoldable pub engineFault : Tuning → GovernorState → ℕ → EngineSample → ReadAmpStats → ℕ
-engineFault G s now e a =
-    firstFault
-    (not (soundOf G (s .mode) (s .streaks)) gives badState
-    ∷ (countsLarge (e .«l0_count») (e .«l0_write_stall_trigger») (e .«backlog_levels») || deltasLarge (s .window) a) gives tooLarge
+-- 1, 2, 3
+abbrev pub engineChecks : Tuning → GovernorState → ℕ → EngineSample → ReadAmpStats → List Check
+engineChecks G s now e a =
+    not (soundOf G (s .mode) (s .streaks)) gives badState
+    ∷ (anyLarge (e .«l0_count») (e .«l0_write_stall_trigger») (e .«backlog_levels») || deltasLarge (s .window) a) gives tooLarge
     ∷ (ltb (2 ^ 64 - 1) (probedSum a) || countersFull G s now (sampleOf s e a)) gives counterFull
-    ∷ [])
+    ∷ []
+
+unfoldable pub engineFault : Tuning → GovernorState → ℕ → EngineSample → ReadAmpStats → ℕ
+engineFault G s now e a = firstFault (engineChecks G s now e a)
 
 -- both sums are kept, also where no get resolved
 abbrev pub windowOf : ReadAmpStats → Window

@@ -2,15 +2,14 @@
 ghost use mathlib.Core.Path.{_≡_};
 ghost use Prim.Native.Nat.{_+_, _-_, _≤_, _^_};
 ghost use lib.Dec.{ltb};
-ghost use Rattle.governor.specs.Numbers.{source};
-ghost use Rattle.governor.specs.Observe.{large};
+ghost use Rattle.kinds.specs.Tuning.{source};
+ghost use Rattle.counts.specs.Counts.{large};
 ghost use Rattle.governor.specs.Engine.{probedSum, resolvedSum, probedSince, resolvedSince, deltasLarge, perGet, sampleOf, windowOf, engineFault, engineOf};
-use crate::mode;
 use crate::observe;
-use crate::pressure::PressureSample;
-use crate::state::GovernorState;
-use crate::state::Observed;
-use crate::state::Window;
+use pressure::PressureSample;
+use state::GovernorState;
+use state::Observed;
+use state::Window;
 
 pub struct ReadAmpStats {
     pub gets_total: u64,
@@ -28,15 +27,6 @@ pub struct EngineSample {
     pub backlog_levels: u64,
 }
 
-fn saturating_sub(a: u64, b: u64) -> u64
-    ensures { λ r. ⌜ r ≡ a - b ⌝ }
-{
-    if a < b {
-        return 0;
-    }
-    a - b
-}
-
 // The sum of both probe counts would pass the largest u64.
 fn probe_sum_full(a: ReadAmpStats) -> bool
     ensures { λ r. ⌜ r ≡ ltb (2 ^ 64 - 1) (probedSum a) ⌝ }
@@ -48,23 +38,23 @@ fn probe_sum_full(a: ReadAmpStats) -> bool
 fn probed_large(w: Window, a: ReadAmpStats) -> bool
     ensures { λ r. ⌜ r ≡ large (probedSince w a) ⌝ }
 {
-    let l0 = saturating_sub(a.l0_tables_probed, w.last_probed);
-    let left = saturating_sub(w.last_probed, a.l0_tables_probed);
-    let leveled = saturating_sub(a.leveled_tables_probed, left);
-    if observe::is_large(l0) {
+    let l0 = counts::saturating_sub(a.l0_tables_probed, w.last_probed);
+    let left = counts::saturating_sub(w.last_probed, a.l0_tables_probed);
+    let leveled = counts::saturating_sub(a.leveled_tables_probed, left);
+    if counts::is_large(l0) {
         return true;
     }
-    if observe::is_large(leveled) {
+    if counts::is_large(leveled) {
         return true;
     }
-    observe::is_large(l0 + leveled)
+    counts::is_large(l0 + leveled)
 }
 
 fn resolved_sum(a: ReadAmpStats) -> u64
     ensures { λ r. ⌜ r ≡ resolvedSum a ⌝ }
 {
-    saturating_sub(
-        saturating_sub(a.gets_total, a.resolved_in_memtable),
+    counts::saturating_sub(
+        counts::saturating_sub(a.gets_total, a.resolved_in_memtable),
         a.resolved_in_immutable,
     )
 }
@@ -72,7 +62,7 @@ fn resolved_sum(a: ReadAmpStats) -> u64
 fn resolved_since(w: Window, a: ReadAmpStats) -> u64
     ensures { λ r. ⌜ r ≡ resolvedSince w a ⌝ }
 {
-    saturating_sub(resolved_sum(a), w.last_resolved)
+    counts::saturating_sub(resolved_sum(a), w.last_resolved)
 }
 
 // Tables probed for each get that a table resolved, since the last observation.
@@ -82,7 +72,7 @@ fn probed_per_get(s: GovernorState, a: ReadAmpStats) -> f64
 {
     let resolved = resolved_since(s.window, a);
     if 0 < resolved {
-        let probed = saturating_sub(
+        let probed = counts::saturating_sub(
             a.l0_tables_probed + a.leveled_tables_probed,
             s.window.last_probed,
         );
@@ -107,17 +97,17 @@ fn sample(s: GovernorState, e: EngineSample, a: ReadAmpStats) -> PressureSample
 fn deltas_large(w: Window, a: ReadAmpStats) -> bool
     ensures { λ r. ⌜ r ≡ deltasLarge w a ⌝ }
 {
-    probed_large(w, a) | observe::is_large(resolved_since(w, a))
+    probed_large(w, a) | counts::is_large(resolved_since(w, a))
 }
 
 fn engine_fault(s: GovernorState, now: u64, e: EngineSample, a: ReadAmpStats) -> u64
     ensures { λ r. ⌜ r ≡ engineFault source s now e a ⌝ }
 {
     let was = s.mode;
-    if !mode::is_sound(was, s.streaks) {
+    if !modes::is_sound(was, s.streaks) {
         return refusals::BAD_STATE;
     }
-    let large = observe::counts_large(e.l0_count, e.l0_write_stall_trigger, e.backlog_levels);
+    let large = counts::any_large(e.l0_count, e.l0_write_stall_trigger, e.backlog_levels);
     if large | deltas_large(s.window, a) {
         return refusals::TOO_LARGE;
     }
@@ -145,7 +135,7 @@ pub fn observe_engine(mut s: GovernorState, now: u64, e: EngineSample, a: ReadAm
 {
     let refusal = engine_fault(s, now, e, a);
     if refusal == refusals::NONE {
-        s = observe::accepted(s, window_now(a), now, sample(s, e, a));
+        s = observe::after_accepted(s, window_now(a), now, sample(s, e, a));
         return Observed { refusal, state: s };
     }
     Observed { refusal, state: s }

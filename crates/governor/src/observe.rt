@@ -2,40 +2,24 @@
 ghost use mathlib.Core.Path.{_≡_};
 ghost use Prim.Native.Nat.{_-_, _<_, _^_};
 ghost use mathlib.Core.Bool.{true, false, _&&_};
-ghost use Rattle.governor.specs.Numbers.{source};
-ghost use Rattle.governor.specs.Mode.{soundOf};
-ghost use Rattle.governor.specs.Observe.{large, full, countsLarge, countersFull, observeFault, acceptedOf, observedOf, turnOf, switchedCount};
-use crate::clock;
-use crate::mode;
-use crate::mode::Turned;
-use crate::pressure;
-use crate::pressure::PressureSample;
-use crate::state::Counters;
-use crate::state::GovernorState;
-use crate::state::Observed;
-use crate::state::Window;
+ghost use Rattle.kinds.specs.Tuning.{source};
+ghost use Rattle.state.specs.State.{full};
+ghost use Rattle.governor.specs.Observe.{countersFull, observeFault, acceptedOf, observedOf, nextOf, switchedCount};
+use modes::NextMode;
+use pressure::PressureSample;
+use state::Counters;
+use state::GovernorState;
+use state::Observed;
+use state::Window;
+use state::clock;
 
-// A count that a binary64 may not hold.
-pub(crate) fn is_large(n: u64) -> bool
-    ensures { λ r. ⌜ r ≡ large n ⌝ }
-{
-    0x20_0000_0000_0000 < n
-}
-
-pub(crate) fn counts_large(l0_count: u64, trigger: u64, backlog: u64) -> bool
-    ensures { λ r. ⌜ r ≡ countsLarge «l0_count» trigger backlog ⌝ }
-{
-    is_large(l0_count) | (is_large(trigger) | is_large(backlog))
-}
-
-// The mode and streaks after the observation, from a sound state.
-fn turn(s: GovernorState, p: PressureSample) -> Turned
-    requires { ⌜ soundOf source (s .mode) (s .streaks) ≡ true ⌝ }
-    ensures { λ r. ⌜ r ≡ turnOf source s p ⌝ }
+// The mode and streaks after the observation.
+fn next(s: GovernorState, p: PressureSample) -> NextMode
+    ensures { λ r. ⌜ r ≡ nextOf source s p ⌝ }
 {
     let probed = pressure::smoothed(s.signals.tables_probed_ewma, p.tables_probed_per_get);
     let was = s.mode;
-    mode::next_mode(
+    modes::next_mode(
         was,
         s.streaks,
         pressure::l0_fraction(p),
@@ -52,13 +36,12 @@ fn switches_full(c: Counters, switched: bool) -> bool
 }
 
 pub(crate) fn counters_full(s: GovernorState, now: u64, p: PressureSample) -> bool
-    requires { ⌜ soundOf source (s .mode) (s .streaks) ≡ true ⌝ }
     ensures { λ r. ⌜ r ≡ countersFull source s now p ⌝ }
 {
     let was = s.mode;
-    let t = turn(s, p);
+    let t = next(s, p);
     let is = t.mode;
-    switches_full(s.counters, mode::are_different(was, is)) | clock::time_full(was, s.times, now)
+    switches_full(s.counters, modes::are_different(was, is)) | clock::time_full(was, s.times, now)
 }
 
 fn with_switch(mut c: Counters, switched: bool) -> Counters
@@ -72,23 +55,23 @@ fn with_switch(mut c: Counters, switched: bool) -> Counters
 }
 
 // The state after an observation that nothing refuses.
-pub(crate) fn accepted(
+pub(crate) fn after_accepted(
     s: GovernorState,
     window: Window,
     now: u64,
     p: PressureSample,
 ) -> GovernorState
-    requires { ⌜ (soundOf source (s .mode) (s .streaks) ≡ true) × (countersFull source s now p ≡ false) ⌝ }
+    requires { ⌜ countersFull source s now p ≡ false ⌝ }
     ensures { λ r. ⌜ r ≡ acceptedOf source s window now p ⌝ }
 {
     let was = s.mode;
-    let t = turn(s, p);
+    let t = next(s, p);
     let mode = t.mode;
     let streaks = t.streaks;
     let signals = pressure::signals_after(s.signals, p);
     let focus = s.focus;
     let times = clock::times_after(was, s.times, now);
-    let counters = with_switch(s.counters, mode::are_different(was, mode));
+    let counters = with_switch(s.counters, modes::are_different(was, mode));
     GovernorState {
         mode,
         signals,
@@ -104,10 +87,10 @@ fn observe_fault(s: GovernorState, now: u64, p: PressureSample) -> u64
     ensures { λ r. ⌜ r ≡ observeFault source s now p ⌝ }
 {
     let was = s.mode;
-    if !mode::is_sound(was, s.streaks) {
+    if !modes::is_sound(was, s.streaks) {
         return refusals::BAD_STATE;
     }
-    if counts_large(p.l0_count, p.l0_write_stall_trigger, p.backlog_levels) {
+    if counts::any_large(p.l0_count, p.l0_write_stall_trigger, p.backlog_levels) {
         return refusals::TOO_LARGE;
     }
     if counters_full(s, now, p) {
@@ -121,7 +104,7 @@ pub fn observe(mut s: GovernorState, now: u64, p: PressureSample) -> Observed
 {
     let refusal = observe_fault(s, now, p);
     if refusal == refusals::NONE {
-        s = accepted(s, s.window, now, p);
+        s = after_accepted(s, s.window, now, p);
         return Observed { refusal, state: s };
     }
     Observed { refusal, state: s }

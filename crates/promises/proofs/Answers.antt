@@ -3,16 +3,17 @@ use Prim.Native.Nat.{ℕ}
 use mathlib.Core.Path.{_≡_, refl, sym, subst}
 use mathlib.Core.Bool.{Bool, true, false, cond}
 use lib.Dec.{T, eqb, eqb→eq}
-use Rattle.refusals.specs.First.{none}
-use Rattle.governor.specs.declared.state.GovernorState.{GovernorState}
-use Rattle.governor.specs.declared.state.Observed.{Observed}
-use Rattle.governor.specs.Numbers.{Tuning}
-use Rattle.governor.specs.Observe.{observeFault, acceptedOf, answered, observedOf}
+use Rattle.refusals.specs.Refusals.{none}
+use Rattle.state.specs.declared.GovernorState.{GovernorState}
+use Rattle.state.specs.declared.Observed.{Observed}
+use Rattle.kinds.specs.Tuning.{Tuning}
+use Rattle.governor.specs.Observe.{observeFault, acceptedOf, observedOf}
+use Rattle.state.specs.State.{answered}
 use Rattle.governor.specs.Engine.{engineFault, windowOf, sampleOf, engineOf}
-use Rattle.governor.specs.Clock.{timesOf}
-use Rattle.governor.specs.declared.snapshot.SnapshotAnswer.the-variants.{Stats, Refused}
-use Rattle.governor.specs.Snapshot.{snapshotFault, statsOf, snapshotOf, snapshotRefusal}
-use Rattle.governor.specs.Counters.{moveFault, trivialMoveOf, outcomeFault, outcomeOf}
+use Rattle.state.specs.Clock.{timesOf}
+use Rattle.report.specs.declared.snapshot.SnapshotAnswer.the-variants.{Stats, Refused}
+use Rattle.report.specs.Snapshot.{snapshotFault, statsOf, snapshotOf, snapshotRefusal}
+use Rattle.report.specs.Counters.{moveFault, trivialMoveOf, outcomeFault, outcomeOf}
 use Rattle.promises.specs.Reading.{Observation, sampled, counted}
 use Rattle.promises.specs.Calls.{answerOf}
 use Rattle.promises.specs.Counts.{Action, observe, move, outcome, choose, focus, acted}

@@ -6,14 +6,14 @@ use mathlib.Core.Logic.{_↔_}
 use mathlib.Core.Bool.{cond}
 use mathlib.Core.List.{List, [], _∷_}
 use lib.ListN.{length, take, getD}
-use Rattle.governor.specs.declared.state.GovernorState.{GovernorState}
-use Rattle.governor.specs.declared.state.GovernorMode.{GovernorMode}
-use Rattle.governor.specs.declared.state.GovernorMode.the-variants.{Balanced, ReadProtect, WriteEmergency}
-use Rattle.governor.specs.declared.mode.Turned.{Turned}
-use Rattle.governor.specs.Numbers.{Tuning, source}
-use Rattle.governor.specs.State.{freshOf}
-use Rattle.governor.specs.Sample.{fractionOf}
-use Rattle.governor.specs.Pressure.{blendedOf, signalsOf}
+use Rattle.state.specs.declared.GovernorState.{GovernorState}
+use Rattle.kinds.specs.declared.mode.GovernorMode.{GovernorMode}
+use Rattle.kinds.specs.declared.mode.GovernorMode.the-variants.{Balanced, ReadProtect, WriteEmergency}
+use Rattle.modes.specs.declared.NextMode.{NextMode}
+use Rattle.kinds.specs.Tuning.{Tuning, source}
+use Rattle.state.specs.State.{freshOf}
+use Rattle.pressure.specs.Sample.{fractionOf}
+use Rattle.pressure.specs.Pressure.{blendedOf, signalsOf}
 use Rattle.governor.specs.Observe.{acceptedOf}
 use Rattle.governor.specs.Engine.{perGet}
 use Rattle.promises.specs.Reading.{Observation, sampled, counted, Seen, seenFrom, seen, InEmergency, InReadProtect, ReadsAs, Apart}
@@ -23,7 +23,7 @@ use Rattle.promises.proofs.Turns.{at, run}
 use Rattle.promises.proofs.ModeRead.{mode-read}
 use Rattle.promises.proofs.Answers.{newOf, by-answer}
 
-abbrev turned : GovernorState → Turned
+abbrev turned : GovernorState → NextMode
 turned s = at (s .mode) (s .streaks)
 
 -- a list as it is looked at from a state on

@@ -4,15 +4,15 @@ use native.Mathlib.Omega.{arith}
 use mathlib.Core.Path.{_≡_, refl}
 use mathlib.Core.Bool.{Bool, true, false, cond, _&&_}
 use mathlib.Core.List.{List, [], _∷_}
-use Rattle.governor.specs.declared.state.GovernorState.{GovernorState}
-use Rattle.governor.specs.declared.state.GovernorMode.{GovernorMode}
-use Rattle.governor.specs.declared.state.Counters.{Counters}
-use Rattle.governor.specs.declared.counters.CandidateKind.the-variants.{L0, LevelBatch, TrivialMove}
-use Rattle.governor.specs.Numbers.{Tuning}
-use Rattle.governor.specs.State.{freshOf}
+use Rattle.state.specs.declared.GovernorState.{GovernorState}
+use Rattle.kinds.specs.declared.mode.GovernorMode.{GovernorMode}
+use Rattle.state.specs.declared.Counters.{Counters}
+use Rattle.kinds.specs.declared.kind.CandidateKind.the-variants.{L0, LevelBatch, TrivialMove}
+use Rattle.kinds.specs.Tuning.{Tuning}
+use Rattle.state.specs.State.{freshOf}
 use Rattle.governor.specs.Observe.{switches, acceptedOf}
 use Rattle.governor.specs.Engine.{sampleOf}
-use Rattle.governor.specs.Counters.{chosenOf, moveFault, trivialMoveOf, outcomeFault, outcomeOf}
+use Rattle.report.specs.Counters.{chosenOf, moveFault, trivialMoveOf, outcomeFault, outcomeOf}
 use Rattle.promises.specs.Reading.{Observation, sampled, counted}
 use Rattle.promises.specs.Calls.{Call}
 use Rattle.promises.specs.Counts.{Action, observe, move, outcome, choose, focus, acted, afterAll, number, isSwitch, isMove, isOutcome, isBatch}

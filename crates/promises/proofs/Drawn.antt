@@ -4,17 +4,17 @@ use mathlib.Core.Bool.{Bool, true, false, cond}
 use mathlib.Core.List.{List, [], List·Memᴰ·not-nil}
 use Prim.Native.Nat.{ℕ, _<_}
 use lib.ListN.{length}
-use Rattle.tables.specs.declared.records.Table.{Table}
-use Rattle.tables.specs.declared.records.Entry.{Entry}
-use Rattle.selection.specs.declared.records.Candidate.{Candidate}
-use Rattle.selection.specs.Estimate.{matched, atLevel, offLevel, bytesOf, isL0, inputsOf, estimateOf}
-use Rattle.selection.specs.Members.{SumOver, CountOver, matched-among, at-among, off-among}
-use Rattle.governor.specs.declared.state.PressureVector.{PressureVector}
-use Rattle.governor.specs.declared.state.FocusState.{FocusState}
-use Rattle.selection.specs.declared.pick.Winner.the-variants.{At}
-use Rattle.selection.specs.Candidates.{candidatesOf}
-use Rattle.selection.specs.PickCall.{pickedOf}
-use Rattle.selection.specs.PickLaws.{winner-below}
+use Rattle.records.specs.declared.tables.Table.{Table}
+use Rattle.records.specs.declared.tables.Entry.{Entry}
+use Rattle.records.specs.declared.candidate.Candidate.{Candidate}
+use Rattle.estimates.specs.Estimate.{matched, atLevel, offLevel, bytesOf, isL0Candidate, inputsOf, estimateOf}
+use Rattle.estimates.specs.Estimate.Members.{SumOver, CountOver, matched-among, at-among, off-among}
+use Rattle.kinds.specs.declared.vector.PressureVector.{PressureVector}
+use Rattle.kinds.specs.declared.focus.FocusState.{FocusState}
+use Rattle.choice.specs.declared.Winner.the-variants.{At}
+use Rattle.records.specs.Candidates.{candidatesOf}
+use Rattle.choice.specs.Choice.Call.{pickedOf}
+use Rattle.choice.specs.Choice.Laws.{winner-below}
 
 -- what a level's excess is taken from
 pub level-drawn : (ts : List Table) (level : ℕ) → SumOver ts (bytesOf (atLevel level ts))
@@ -25,7 +25,7 @@ module _ (ts : List Table) (next : ℕ) (es : List Entry) (ns : List ℕ) (c : C
   found = matched ts (inputsOf ns c)
 
   abbrev source : ℕ
-  source = cond (isL0 c) 0 (c .level)
+  source = cond (isL0Candidate c) 0 (c .level)
 
   pub input-drawn : SumOver ts (estimateOf ts next es ns c .«input_bytes»)
   unfolding estimateOf
@@ -37,7 +37,7 @@ module _ (ts : List Table) (next : ℕ) (es : List Entry) (ns : List ℕ) (c : C
 
   pub files-drawn : CountOver ts (estimateOf ts next es ns c .«l0_files_removed»)
   unfolding estimateOf
-  files-drawn = go (isL0 c)
+  files-drawn = go (isL0Candidate c)
     where
       go : (b : Bool) → CountOver ts (cond b (length (atLevel 0 found)) 0)
       go true = record { some = atLevel 0 found; among = λ t m. matched-among ts (inputsOf ns c) t (at-among 0 found t m); count = refl }

@@ -6,18 +6,19 @@ use mathlib.Core.Logic.{_↔_}
 use mathlib.Core.List.{List, [], _∷_, _++_, append-assoc, append-nil}
 use lib.ListN.{length, length-append}
 use lib.Seq.{append-snoc}
-use Rattle.governor.specs.declared.state.GovernorMode.{GovernorMode}
-use Rattle.governor.specs.declared.state.GovernorMode.the-variants.{Balanced, ReadProtect, WriteEmergency}
-use Rattle.governor.specs.declared.state.Streaks.{Streaks}
-use Rattle.governor.specs.declared.mode.Turned.{Turned}
-use Rattle.governor.specs.Numbers.{Tuning, modeNumber}
-use Rattle.governor.specs.Mode.{next, switched}
+use Rattle.kinds.specs.declared.mode.GovernorMode.{GovernorMode}
+use Rattle.kinds.specs.declared.mode.GovernorMode.the-variants.{Balanced, ReadProtect, WriteEmergency}
+use Rattle.state.specs.declared.Streaks.{Streaks}
+use Rattle.modes.specs.declared.NextMode.{NextMode}
+use Rattle.kinds.specs.Tuning.{Tuning}
+use Rattle.kinds.specs.Numbers.{modeNumber}
+use Rattle.modes.specs.Mode.{next, switched}
 use Rattle.promises.specs.Reading.{Seen, IsHot, IsHigh, Each, InEmergency, InReadProtect, ReadsAs, Apart}
 use Rattle.promises.proofs.Streaks.{by-test, each-append, streak, Held, next-is, next-not, next-le, streak-next, held-no-row, no-row-held, no-row-next}
 use Rattle.promises.proofs.Thresholds.{hot-recovered, high-calm}
 use Rattle.promises.proofs.Turns.{at, own, grown, own-grown, ends-in, passes, window, Cuts, turned, longer, by-turn, step, run, run-append}
 
-abbrev pub start : Turned
+abbrev pub start : NextMode
 start = switched Balanced
 
 module _ (G : Tuning) (A : Apart G) where
@@ -34,14 +35,14 @@ module _ (G : Tuning) (A : Apart G) where
   unfolding run
   lasts m k [] c h = refl
   lasts m k (x ∷ l) c h =
-      by-turn G (λ (t : Turned). run G t l .mode ≡ m) m k x (λ y _. absurd (c .0 y)) (λ _ le. absurd (omega (arith, h .0)))
+      by-turn G (λ (t : NextMode). run G t l .mode ≡ m) m k x (λ y _. absurd (c .0 y)) (λ _ le. absurd (omega (arith, h .0)))
       (λ _ _. lasts m (grown m k (longer G m k x)) l (c .1) (rw (own-grown m k (longer G m k x)) (h .1)))
 
   uncut : (l : List Seen) → Each (λ (x : Seen). ¬ Cuts G WriteEmergency x) l
   uncut [] = tt
   uncut (x ∷ l) = (λ n. n, uncut l)
 
-  abbrev Emergency : List Seen → Turned → Type 0
+  abbrev Emergency : List Seen → NextMode → Type 0
   Emergency l t = run G t l .mode ≡ WriteEmergency
 
   -- a hot one leads to WriteEmergency from every mode
@@ -58,7 +59,7 @@ module _ (G : Tuning) (A : Apart G) where
   Up Balanced n k = (n ≤ k .«enter_read_protect») × (k .«enter_read_protect» < G .enterReadProtect)
   Up ReadProtect n k = 0 < n → k .«exit_read_protect» ≡ 0
 
-  abbrev Protect : List Seen → Turned → Type 0
+  abbrev Protect : List Seen → NextMode → Type 0
   Protect l t = run G t l .mode ≡ ReadProtect
 
   -- what is left of the row leads to ReadProtect, and stays there
@@ -80,7 +81,7 @@ module _ (G : Tuning) (A : Apart G) where
 
   -- ---- what a list holds at its end, by the mode that it reached
 
-  abbrev reached : List Seen → Turned
+  abbrev reached : List Seen → NextMode
   reached l = run G start l
 
   reads-emergency : (l : List Seen) → InEmergency G l → reached l .mode ≡ WriteEmergency
@@ -123,10 +124,10 @@ module _ (G : Tuning) (A : Apart G) where
   At Balanced l k = Row l (k .«enter_read_protect») × (k .«enter_read_protect» < G .enterReadProtect)
   At ReadProtect l k = (i : InReadProtect G l) × (k .«exit_read_protect» ≡ streak (passes G ReadProtect) 0 (i .after))
 
-  abbrev AtEnd : List Seen → Turned → Type 0
+  abbrev AtEnd : List Seen → NextMode → Type 0
   AtEnd l s = At (s .mode) l (s .streaks)
 
-  abbrev Ends : List Seen → Turned → Type 0
+  abbrev Ends : List Seen → NextMode → Type 0
   Ends l s = reached l .mode ≡ s .mode → AtEnd l s
 
   begun : (l : List Seen) → Ends l start
@@ -192,7 +193,7 @@ module _ (G : Tuning) (A : Apart G) where
       let s = reached l in
       let one : reached (l ++ x ∷ []) ≡ step G s x = run-append G start l (x ∷ []) in
       let here : AtEnd (l ++ x ∷ []) (reached (l ++ x ∷ [])) =
-      rw one (by-turn G (Ends (l ++ x ∷ [])) (s .mode) (s .streaks) x (λ _. heated l (s .streaks) x) (topped l (s .streaks) x (s .mode) a) (goes-on l (s .streaks) x (s .mode) a) (ap (λ (t : Turned). t .mode) one))
+      rw one (by-turn G (Ends (l ++ x ∷ [])) (s .mode) (s .streaks) x (λ _. heated l (s .streaks) x) (topped l (s .streaks) x (s .mode) a) (goes-on l (s .streaks) x (s .mode) a) (ap (λ (t : NextMode). t .mode) one))
       in
       rw (← (append-snoc l x t)) (ends (l ++ x ∷ []) t here)
 

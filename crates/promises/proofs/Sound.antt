@@ -1,38 +1,45 @@
 -- From a fresh governor refusal 1 never occurs: whatever was done before, each mode's own streak stays below its window and the others stay 0.
-use Prim.Native.Nat.{ℕ, _-_, _^_, _<_}
+use Prim.Native.Nat.{ℕ, _<_}
 use native.Mathlib.Omega.{arith}
-use mathlib.Core.Path.{_≡_}
-use mathlib.Core.Bool.{Bool, true, false, not, _||_}
+use mathlib.Core.Path.{_≡_, refl}
+use mathlib.Core.Bool.{Bool, true, false, not, _&&_}
 use mathlib.Core.List.{List, [], _∷_}
-use lib.Dec.{T, ltb, lt→ltb}
+use lib.Dec.{T, ltb, eqb, lt→ltb}
 use lib.Ieee.Fits.{and-i, and-r}
-use Rattle.refusals.specs.First.{_gives_, firstFault, badState, tooLarge, counterFull}
-use Rattle.governor.specs.declared.state.GovernorState.{GovernorState}
-use Rattle.governor.specs.declared.state.GovernorMode.{GovernorMode}
-use Rattle.governor.specs.declared.state.GovernorMode.the-variants.{Balanced, ReadProtect, WriteEmergency}
-use Rattle.governor.specs.declared.state.Streaks.{Streaks}
-use Rattle.governor.specs.declared.mode.Turned.{Turned}
-use Rattle.governor.specs.declared.counters.CandidateKind.the-variants.{L0, LevelBatch, TrivialMove}
-use Rattle.governor.specs.Numbers.{Tuning}
-use Rattle.governor.specs.State.{freshOf}
-use Rattle.governor.specs.Mode.{switched, soundOf}
-use Rattle.governor.specs.Pressure.{probedOf}
-use Rattle.governor.specs.Observe.{large, full, countsLarge, countersFull, acceptedOf, observeFault, observedOf}
-use Rattle.governor.specs.Engine.{probedSum, deltasLarge, sampleOf, engineFault, engineOf}
-use Rattle.governor.specs.Counters.{chosenOf, moveFault, trivialMoveOf, outcomeFault, outcomeOf}
+use Rattle.lists.specs.Any.{anyOf}
+use Rattle.refusals.specs.Refusals.{Check, _gives_, firstFault, badState}
+use Rattle.refusals.specs.Checks.{never-gives}
+use Rattle.state.specs.declared.GovernorState.{GovernorState}
+use Rattle.kinds.specs.declared.mode.GovernorMode.{GovernorMode}
+use Rattle.kinds.specs.declared.mode.GovernorMode.the-variants.{Balanced, ReadProtect, WriteEmergency}
+use Rattle.state.specs.declared.Streaks.{Streaks}
+use Rattle.modes.specs.declared.NextMode.{NextMode}
+use Rattle.kinds.specs.declared.kind.CandidateKind.the-variants.{L0, LevelBatch, TrivialMove}
+use Rattle.kinds.specs.Tuning.{Tuning}
+use Rattle.state.specs.State.{freshOf}
+use Rattle.modes.specs.Mode.{switched, soundOf}
+use Rattle.pressure.specs.Pressure.{probedOf}
+use Rattle.governor.specs.Observe.{acceptedOf, observeChecks, observeFault, observedOf}
+use Rattle.governor.specs.Engine.{sampleOf, engineChecks, engineFault, engineOf}
+use Rattle.report.specs.Counters.{chosenOf, moveChecks, moveFault, trivialMoveOf, outcomeChecks, outcomeFault, outcomeOf}
 use Rattle.promises.specs.Reading.{Observation, sampled, counted, Seen, seenOf}
 use Rattle.promises.specs.Calls.{answerOf}
 use Rattle.promises.specs.Counts.{Action, observe, move, outcome, choose, focus, acted, afterAll}
 use Rattle.promises.proofs.Turns.{at, grown, ends-in, window, turned, longer, by-turn}
 use Rattle.promises.proofs.Answers.{by-fault, newOf, by-answer}
 
-first-three : (sound large full : Bool) → T sound → ¬ (firstFault (not sound gives badState ∷ large gives tooLarge ∷ full gives counterFull ∷ []) ≡ badState)
-first-three true true full t e = omega arith
-first-three true false true t e = omega arith
-first-three true false false t e = omega arith
+abbrev quiet : List Check → Type 0
+quiet cs = anyOf (λ c. eqb (c .number) badState && c .found) cs ≡ false
+
+silent : (cs : List Check) → quiet cs → ¬ (firstFault cs ≡ badState)
+silent cs q = never-gives badState cs (λ e. omega arith) q
+
+-- a sound state's first check finds nothing
+first-quiet : (sound : Bool) → T sound → eqb badState badState && not sound ≡ false
+first-quiet true t = refl
 
 module _ (G : Tuning) (exits : 0 < G .exitEmergency) (enters : 0 < G .enterReadProtect) (leaves : 0 < G .exitReadProtect) where
-  abbrev Sound : Turned → Type 0
+  abbrev Sound : NextMode → Type 0
   Sound t = T (soundOf G (t .mode) (t .streaks))
 
   cleared : (m : GovernorMode) → Sound (switched m)
@@ -74,20 +81,19 @@ module _ (G : Tuning) (exits : 0 < G .exitEmergency) (enters : 0 < G .enterReadP
   keeps-all s (a ∷ l) h = keeps-all (acted G s a .state) l (keeps s a h)
 
   observed : (s : GovernorState) (now : ℕ) (o : Observation) → SoundIn s → ¬ (answerOf G s now o .refusal ≡ badState)
-  unfolding observedOf observeFault engineOf engineFault
+  unfolding observedOf observeFault engineOf engineFault anyOf
   observed s now (sampled x) h =
-      first-three (soundOf G (s .mode) (s .streaks)) (countsLarge (x .«l0_count») (x .«l0_write_stall_trigger») (x .«backlog_levels»)) (countersFull G s now x) h
+      silent (observeChecks G s now x) (rw (first-quiet (soundOf G (s .mode) (s .streaks)) h))
   observed s now (counted e a) h =
-      first-three (soundOf G (s .mode) (s .streaks)) (countsLarge (e .«l0_count») (e .«l0_write_stall_trigger») (e .«backlog_levels») || deltasLarge (s .window) a)
-      (ltb (2 ^ 64 - 1) (probedSum a) || countersFull G s now (sampleOf s e a)) h
+      silent (engineChecks G s now e a) (rw (first-quiet (soundOf G (s .mode) (s .streaks)) h))
 
   answers : (s : GovernorState) (a : Action) → SoundIn s → ¬ (acted G s a .refusal ≡ badState)
-  unfolding trivialMoveOf outcomeOf
+  unfolding trivialMoveOf outcomeOf anyOf
   answers s (observe c) h = observed s (c .now) (c .observation) h
-  answers s (move bytes) h = first-three true false (full (s .counters .«trivial_moves_performed»)) tt
-  answers s (outcome predicted actual) h = first-three true (large predicted || large actual) (full (s .counters .«predicted_actual_samples»)) tt
-  answers s (choose kind) h = first-three true false false tt
-  answers s (focus f) h = first-three true false false tt
+  answers s (move bytes) h = silent (moveChecks s) refl
+  answers s (outcome predicted actual) h = silent (outcomeChecks s predicted actual) refl
+  answers s (choose kind) h = silent [] refl
+  answers s (focus f) h = silent [] refl
 
   -- whatever was done before, and whatever is done next
   pub never-bad-state : (clock : ℕ) (l : List Action) (a : Action) → ¬ (acted G (afterAll G (freshOf clock) l) a .refusal ≡ badState)

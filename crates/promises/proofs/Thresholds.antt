@@ -4,7 +4,7 @@ use lib.Dec.{T, lit<}
 use lib.Ieee.{Float, ofBits, le, lt}
 use lib.Ieee.Fits.{and-l, and-r}
 use Rattle.arith.specs.Floats.Order.{le-trans, lt-not-le}
-use Rattle.governor.specs.Numbers.{Tuning, source}
+use Rattle.kinds.specs.Tuning.{Tuning, source}
 use Rattle.promises.specs.Reading.{Seen, IsHot, HasRecovered, IsHigh, IsCalm, Apart}
 
 between : (leave enter x : Float) → T (lt leave enter) → T (le enter x) → T (le x leave) → ⊥

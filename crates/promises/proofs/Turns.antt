@@ -3,16 +3,16 @@ use Prim.Native.Nat.{ℕ, _≤_, _<_}
 use mathlib.Core.Path.{_≡_, refl}
 use mathlib.Core.Bool.{Bool}
 use mathlib.Core.List.{List, [], _∷_, _++_}
-use Rattle.governor.specs.declared.state.GovernorMode.{GovernorMode}
-use Rattle.governor.specs.declared.state.GovernorMode.the-variants.{Balanced, ReadProtect, WriteEmergency}
-use Rattle.governor.specs.declared.state.Streaks.{Streaks}
-use Rattle.governor.specs.declared.mode.Turned.{Turned}
-use Rattle.governor.specs.Numbers.{Tuning}
-use Rattle.governor.specs.Mode.{hot, recovered, high, calm, next, switched, turnedOf}
+use Rattle.kinds.specs.declared.mode.GovernorMode.{GovernorMode}
+use Rattle.kinds.specs.declared.mode.GovernorMode.the-variants.{Balanced, ReadProtect, WriteEmergency}
+use Rattle.state.specs.declared.Streaks.{Streaks}
+use Rattle.modes.specs.declared.NextMode.{NextMode}
+use Rattle.kinds.specs.Tuning.{Tuning}
+use Rattle.modes.specs.Mode.{hot, recovered, high, calm, next, switched, nextModeOf}
 use Rattle.promises.specs.Reading.{Seen, IsHot}
 use Rattle.promises.proofs.Streaks.{by-test, by-order}
 
-abbrev pub at : GovernorMode → Streaks → Turned
+abbrev pub at : GovernorMode → Streaks → NextMode
 at m k = record { mode = m; streaks = k }
 
 -- a mode's own streak, and the streaks with another one
@@ -55,17 +55,17 @@ module _ (G : Tuning) where
   Cuts ReadProtect x = IsHot G x
   Cuts WriteEmergency x = ⊥
 
-  abbrev pub turned : GovernorMode → Streaks → Seen → Turned
-  turned m k x = turnedOf G m k (x .fraction) (x .ratio) (x .smooth)
+  abbrev pub turned : GovernorMode → Streaks → Seen → NextMode
+  turned m k x = nextModeOf G m k (x .fraction) (x .ratio) (x .smooth)
 
   abbrev pub longer : GovernorMode → Streaks → Seen → ℕ
   longer m k x = next (passes m x) (own m k)
 
-  pub by-turn : (P : Turned → Type 0) (m : GovernorMode) (k : Streaks) (x : Seen) → (Cuts m x → IsHot G x → P (switched WriteEmergency))
+  pub by-turn : (P : NextMode → Type 0) (m : GovernorMode) (k : Streaks) (x : Seen) → (Cuts m x → IsHot G x → P (switched WriteEmergency))
       → (¬ Cuts m x → window m ≤ longer m k x → P (switched (ends-in m)))
       → (¬ Cuts m x → longer m k x < window m → P (at m (grown m k (longer m k x))))
       → P (turned m k x)
-  unfolding turnedOf
+  unfolding nextModeOf
   by-turn P Balanced k x f g h =
       by-test P (hot G (x .fraction) (x .ratio)) _ _ (λ y. f y y) (λ n. by-order P (window Balanced) (longer Balanced k x) _ _ (g n) (h n))
   by-turn P ReadProtect k x f g h =
@@ -74,14 +74,14 @@ module _ (G : Tuning) where
 
   -- ---- a run of accepted observations
 
-  abbrev pub step : Turned → Seen → Turned
+  abbrev pub step : NextMode → Seen → NextMode
   step s x = turned (s .mode) (s .streaks) x
 
-  unfoldable pub run : Turned → List Seen → Turned
+  unfoldable pub run : NextMode → List Seen → NextMode
   run s [] = s
   run s (x ∷ xs) = run (step s x) xs
 
-  pub run-append : (s : Turned) (l t : List Seen) → run s (l ++ t) ≡ run (run s l) t
+  pub run-append : (s : NextMode) (l t : List Seen) → run s (l ++ t) ≡ run (run s l) t
   unfolding run
   run-append s [] t = refl
   run-append s (x ∷ l) t = run-append (step s x) l t

@@ -6,10 +6,10 @@ use mathlib.Core.List.{List, _++_}
 use lib.ListN.{length, drop}
 use lib.Dec.{T, eqb, eqb→eq}
 use borrow.Author.Tests.{eq-eqb}
-use Rattle.refusals.specs.First.{none}
+use Rattle.refusals.specs.Refusals.{none}
 use Rattle.candidates.specs.declared.Generated.{Generated}
-use Rattle.candidates.specs.Small.{words-length}
-use Rattle.candidates.specs.Generate.{Asked, Answered, madeOf, candidateWords, numberWords, generateFault, generatedOf, frontOf}
+use Rattle.candidates.specs.Bounds.{words-length}
+use Rattle.candidates.specs.Generate.{GenerateInput, Answered, madeOf, candidateWords, numberWords, generateFault, generatedOf, frontOf}
 
 -- a buffer's first n words were written, and no other
 pub record Wrote (old new : List ℕ) (n : ℕ) : Type 0 where
@@ -17,7 +17,7 @@ pub record Wrote (old new : List ℕ) (n : ℕ) : Type 0 where
   pub long : length front ≡ n
   pub stands : new ≡ front ++ drop n old
 
-module _ (q : Asked) (room₁ room₂ : ℕ) where
+module _ (q : GenerateInput) (room₁ room₂ : ℕ) where
   accepted : generatedOf q room₁ room₂ .refusal ≡ none → generateFault q room₁ room₂ ≡ none
   unfolding generatedOf
   accepted = go (generateFault q room₁ room₂) (eqb (generateFault q room₁ room₂) none) refl
@@ -33,7 +33,7 @@ module _ (q : Asked) (room₁ room₂ : ℕ) where
 front-wrote : (fault : ℕ) (words old new : List ℕ) → fault ≡ none → new ≡ frontOf fault words old → Wrote old new (length words)
 front-wrote fault words old new z e = record { front = words; long = refl; stands = e ∙ rw (eq-eqb fault none z) }
 
-pub generation-counts : (q : Asked) (c₀ c₁ n₀ n₁ : List ℕ) (r : Generated) → Answered q c₀ c₁ n₀ n₁ r → r .refusal ≡ none → Wrote c₀ c₁ (6 * r .candidates) × Wrote n₀ n₁ (r .numbers)
+pub generation-counts : (q : GenerateInput) (c₀ c₁ n₀ n₁ : List ℕ) (r : Generated) → Answered q c₀ c₁ n₀ n₁ r → r .refusal ≡ none → Wrote c₀ c₁ (6 * r .candidates) × Wrote n₀ n₁ (r .numbers)
 generation-counts q c₀ c₁ n₀ n₁ r a h =
     let z = accepted q (length c₀) (length n₀) (rw (← (a .result)) h) in
     let e = a .result ∙ counts q (length c₀) (length n₀) z in

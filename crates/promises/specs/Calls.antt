@@ -3,10 +3,10 @@ use Prim.Native.Nat.{ℕ}
 use mathlib.Core.Bool.{cond}
 use mathlib.Core.List.{List, [], _∷_}
 use lib.Dec.{eqb}
-use Rattle.governor.specs.declared.state.GovernorState.{GovernorState}
-use Rattle.governor.specs.declared.state.GovernorMode.{GovernorMode}
-use Rattle.governor.specs.declared.state.Observed.{Observed}
-use Rattle.governor.specs.Numbers.{Tuning}
+use Rattle.state.specs.declared.GovernorState.{GovernorState}
+use Rattle.kinds.specs.declared.mode.GovernorMode.{GovernorMode}
+use Rattle.state.specs.declared.Observed.{Observed}
+use Rattle.kinds.specs.Tuning.{Tuning}
 use Rattle.governor.specs.Observe.{observedOf}
 use Rattle.governor.specs.Engine.{engineOf}
 use Rattle.promises.specs.Reading.{Observation, sampled, counted}

@@ -3,16 +3,16 @@ use Prim.Native.Nat.{ℕ, _+_}
 use mathlib.Core.Bool.{Bool, true, false, cond, _&&_}
 use mathlib.Core.List.{List, [], _∷_}
 use lib.Dec.{eqb}
-use Rattle.governor.specs.declared.state.GovernorState.{GovernorState}
-use Rattle.governor.specs.declared.state.GovernorMode.{GovernorMode}
-use Rattle.governor.specs.declared.state.FocusState.{FocusState}
-use Rattle.governor.specs.declared.state.Observed.{Observed}
-use Rattle.governor.specs.declared.counters.CandidateKind.{CandidateKind}
-use Rattle.governor.specs.declared.counters.CandidateKind.the-variants.{L0, LevelBatch, TrivialMove}
-use Rattle.governor.specs.Numbers.{Tuning}
-use Rattle.governor.specs.Mode.{differ}
-use Rattle.governor.specs.State.{focusedOf}
-use Rattle.governor.specs.Counters.{chosenOf, trivialMoveOf, outcomeOf}
+use Rattle.state.specs.declared.GovernorState.{GovernorState}
+use Rattle.kinds.specs.declared.mode.GovernorMode.{GovernorMode}
+use Rattle.kinds.specs.declared.focus.FocusState.{FocusState}
+use Rattle.state.specs.declared.Observed.{Observed}
+use Rattle.kinds.specs.declared.kind.CandidateKind.{CandidateKind}
+use Rattle.kinds.specs.declared.kind.CandidateKind.the-variants.{L0, LevelBatch, TrivialMove}
+use Rattle.kinds.specs.Tuning.{Tuning}
+use Rattle.modes.specs.Mode.{differ}
+use Rattle.state.specs.State.{focusedOf}
+use Rattle.report.specs.Counters.{chosenOf, trivialMoveOf, outcomeOf}
 use Rattle.promises.specs.Calls.{Call, answer}
 
 -- an observation; a trivial move, with the bytes that it avoided; an outcome, predicted and actual bytes; a candidate chosen; a focus set

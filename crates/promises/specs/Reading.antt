@@ -7,14 +7,15 @@ use lib.Dec.{T, ltb}
 use lib.ListN.{length}
 use lib.Ieee.{Float, binary64, div, le, lt}
 use Rattle.arith.specs.Whole.{floatOf}
-use Rattle.governor.specs.declared.state.GovernorMode.{GovernorMode}
-use Rattle.governor.specs.declared.state.GovernorMode.the-variants.{Balanced, ReadProtect, WriteEmergency}
-use Rattle.governor.specs.declared.pressure.PressureSample.{PressureSample}
+use Rattle.kinds.specs.declared.mode.GovernorMode.{GovernorMode}
+use Rattle.kinds.specs.declared.mode.GovernorMode.the-variants.{Balanced, ReadProtect, WriteEmergency}
+use Rattle.pressure.specs.declared.PressureSample.{PressureSample}
 use Rattle.governor.specs.declared.engine.EngineSample.{EngineSample}
 use Rattle.governor.specs.declared.engine.ReadAmpStats.{ReadAmpStats}
-use Rattle.governor.specs.Sample.{fractionOf}
-use Rattle.governor.specs.Smoothing.{smoothedOf}
-use Rattle.governor.specs.Numbers.{Tuning, f0}
+use Rattle.pressure.specs.Sample.{fractionOf}
+use Rattle.pressure.specs.Smoothing.{smoothedOf}
+use Rattle.kinds.specs.Tuning.{Tuning}
+use Rattle.arith.specs.Floats.{f0}
 
 -- ---- the list
 

@@ -4,17 +4,19 @@ use mathlib.Core.Bool.{Bool, true, false, _&&_}
 use mathlib.Core.List.{List, [], _∷_, _++_, map}
 use lib.Dec.{eqb}
 use lib.Ieee.{binary64, ofBits}
-use Rattle.governor.specs.declared.state.GovernorMode.{GovernorMode}
-use Rattle.governor.specs.declared.state.GovernorMode.the-variants.{Balanced, ReadProtect, WriteEmergency}
-use Rattle.governor.specs.declared.pressure.PressureSample.{PressureSample}
-use Rattle.governor.specs.Numbers.{source, modeNumber, dominantNumber, focusNumbers}
-use Rattle.governor.specs.State.{freshOf}
-use Rattle.governor.specs.Pacing.{pacingOf, dominantOf}
-use Rattle.candidates.specs.Generate.{asked, Asked, candidateWords, numberWords}
-use Rattle.selection.specs.EstimateCall.{asked as toEstimate, Asked as ToEstimate, estimateWords}
-use Rattle.selection.specs.declared.pick.Picked.{Picked}
-use Rattle.selection.specs.Choice.{noFocus}
-use Rattle.selection.specs.PickCall.{pickedOf, tierNumber, winnerNumbers}
+use Rattle.kinds.specs.declared.mode.GovernorMode.{GovernorMode}
+use Rattle.kinds.specs.declared.mode.GovernorMode.the-variants.{Balanced, ReadProtect, WriteEmergency}
+use Rattle.pressure.specs.declared.PressureSample.{PressureSample}
+use Rattle.kinds.specs.Tuning.{source}
+use Rattle.kinds.specs.Numbers.{modeNumber, dominantNumber, focusNumbers, tierNumber}
+use Rattle.state.specs.State.{freshOf}
+use Rattle.pressure.specs.Pacing.{pacingOf}
+use Rattle.kinds.specs.Vector.{dominantOf}
+use Rattle.candidates.specs.Generate.{generateInput, GenerateInput, candidateWords, numberWords}
+use Rattle.estimates.specs.Estimate.Call.{estimateInput, EstimateInput, estimateWords}
+use Rattle.choice.specs.declared.Picked.{Picked}
+use Rattle.choice.specs.Choice.{noFocus}
+use Rattle.choice.specs.Choice.Call.{pickedOf, winnerNumbers}
 use Rattle.promises.specs.Reading.{sampled}
 use Rattle.promises.specs.Calls.{Call, modes}
 
@@ -27,7 +29,7 @@ pub data Row : Type 0 where
   -- the vector's three components, and the dominant's number
   dominant : ℕ → ℕ → ℕ → ℕ → Row
   -- tables with no focus before: what is lent to generation, the next number, the vector's three components; the candidates' words, the numbers, and the choice in numbers
-  choice : Asked → ℕ → ℕ → ℕ → ℕ → List ℕ → List ℕ → List ℕ → Row
+  choice : GenerateInput → ℕ → ℕ → ℕ → ℕ → List ℕ → List ℕ → List ℕ → Row
 
 abbrev pub sample : ℕ → ℕ → ℕ → ℕ → PressureSample
 sample count trigger ratio probes =
@@ -52,8 +54,8 @@ equal (m ∷ ms) (n ∷ ns) = eqb m n && equal ms ns
 abbrev pub choiceNumbers : Picked → List ℕ
 choiceNumbers p = p .refusal ∷ winnerNumbers (p .winner) ++ focusNumbers (p .focus .«current_focus») ++ p .focus .streak ∷ tierNumber (p .tier) ∷ []
 
-abbrev pub estimating : Asked → ℕ → ToEstimate
-estimating q next = toEstimate (q .tables) next (q .over) (candidateWords q) (numberWords q)
+abbrev pub estimating : GenerateInput → ℕ → EstimateInput
+estimating q next = estimateInput (q .tables) next (q .over) (candidateWords q) (numberWords q)
 
 unfoldable pub holds : Row → Bool
 holds (pause mode pressure nanoseconds) = eqb (pacingOf mode (ofBits binary64 pressure)) nanoseconds
@@ -86,9 +88,9 @@ abbrev probing : PressureSample
 probing = sample 0 4 0 0x4024000000000000
 
 -- 7 (level 1, c to d, 100), 3 (1, a to b, 50), 9 (1, e to f, 10), 4 (2, d to e, 30) over the key bytes abcdef
-abbrev fourTables : Asked
+abbrev fourTables : GenerateInput
 fourTables =
-    asked
+    generateInput
     (7 ∷ 1 ∷ 100 ∷ 2 ∷ 1 ∷ 3 ∷ 1
     ∷ 3 ∷ 1 ∷ 50 ∷ 0 ∷ 1 ∷ 1 ∷ 1
     ∷ 9 ∷ 1 ∷ 10 ∷ 4 ∷ 1 ∷ 5 ∷ 1

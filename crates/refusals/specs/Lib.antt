@@ -1,2 +1,3 @@
--- The refusal numbers, and which of several faults is given.
-pub mod First
+-- The refusal numbers, which of several faults is given, and the laws of any list of checks.
+pub mod Refusals
+pub mod Checks

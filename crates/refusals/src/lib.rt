@@ -1,4 +1,5 @@
 // The refusal numbers, named once. Of several faults a call gives the first in this order: 1, 10, 4, 5, 6, 7, 8, 2, 3, 9. 11 to 15 are free.
+
 pub const NONE: u64 = 0;
 
 // The state's mode has its own streak above its top (Balanced 2, ReadProtect 3, WriteEmergency 2), or another streak is not 0.

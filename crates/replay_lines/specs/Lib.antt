@@ -1,6 +1,2 @@
--- The text of `replay`, from bytes to bytes.
-pub mod Cases
-pub mod Lines
-pub mod Numbers
+-- `replay`, from bytes to bytes.
 pub mod Replay
-pub mod Writing

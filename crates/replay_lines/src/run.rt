@@ -1,77 +1,58 @@
 // The whole run: a governor fresh at clock 0, and a line written for each line read.
 ghost use mathlib.Core.Path.{_≡_};
 ghost use Prim.Native.Nat.{_+_, _≤_, _<_, _^_};
-ghost use lib.ListN.{length};
-ghost use Rattle.governor.specs.Numbers.{modeNumber, dominantNumber};
-ghost use Rattle.governor.specs.State.{freshOf};
-ghost use Rattle.replay_lines.specs.Lines.{linesOf};
+ghost use lib.ListN.{length, replicate};
+ghost use Rattle.lists.specs.Writes.{Filled};
+ghost use Rattle.state.specs.State.{freshOf};
+ghost use Rattle.replay_text.specs.Lines.{linesOf};
 ghost use Rattle.replay_lines.specs.Replay.{printed, replayFrom, replayedOf, replayOut, Counts};
-ghost use Rattle.replay_lines.specs.Writing.{Put};
-use crate::lines::Replayed;
-use crate::lines::line_of;
 use crate::lines::observe_line;
-use crate::reader::Found;
-use crate::reader::next_line;
 use crate::writing::put_five;
-use governor::pacing::PressureSource;
-use governor::state::GovernorMode;
-use governor::state::Observed;
+use replay_fields::line_of;
+use replay_text::reader::LineAt;
+use replay_text::reader::next_line;
+use state::Observed;
 
 // The most bytes that are read; given more, nothing is printed.
 pub const MOST: usize = 65536;
 
+// What the whole run answers: 9 where the output has no room, else its length.
+pub struct Replayed {
+    pub refusal: u64,
+    pub length: usize,
+}
+
 // Room for every text that is read, and a byte more, which shows one that is too long.
 pub fn text_room() -> [u8; 65537]
-    ensures { λ r. ⌜ 65537 ≡ length r ⌝ }
+    ensures { λ r. ⌜ (65537 ≡ length r) × (r ≡ replicate 65537 0) ⌝ }
 {
     [0; 65537]
 }
 
 // Room for every output: at most 65,536 lines of at most 18 bytes.
 pub fn output_room() -> [u8; 1179648]
-    ensures { λ r. ⌜ 1179648 ≡ length r ⌝ }
+    ensures { λ r. ⌜ (1179648 ≡ length r) × (r ≡ replicate 1179648 0) ⌝ }
 {
     [0; 1179648]
-}
-
-fn mode_number(mode: GovernorMode) -> u64
-    ensures { λ r. ⌜ r ≡ modeNumber mode ⌝ }
-{
-    match mode {
-        GovernorMode::Balanced => 0,
-        GovernorMode::ReadProtect => 1,
-        GovernorMode::WriteEmergency => 2,
-    }
-}
-
-fn dominant_number(source: PressureSource) -> u64
-    ensures { λ r. ⌜ r ≡ dominantNumber source ⌝ }
-{
-    match source {
-        PressureSource::Nothing => 0,
-        PressureSource::L0 => 1,
-        PressureSource::DeepDebt => 2,
-        PressureSource::Read => 3,
-    }
 }
 
 // Line number, refusal, mode, dominant, delay.
 fn put_line(out: &mut [u8], at: usize, number: u64, o: Observed) -> usize
     requires { ⌜ at + 106 < 2 ^ 64 ⌝ }
-    ensures { λ r. ⌜ Put (now (out .entry)) at (printed number o) r (now (out .exit)) ⌝ }
+    ensures { λ r. ⌜ Filled (now (out .entry)) at (printed number o) (now (out .exit)) r ⌝ }
     ensures { λ r. ⌜ r ≤ at + 105 ⌝ }
 {
     let s = o.state;
     let mode = s.mode();
-    let dominant = dominant_number(s.pressure_vector().dominant());
-    let delay = governor::pacing::pacing_delay(mode, s.pressure());
+    let dominant = s.pressure_vector().dominant();
+    let delay = pressure::pacing::pacing_delay(mode, s.pressure());
     put_five(
         out,
         at,
         number,
         o.refusal,
-        mode_number(mode),
-        dominant,
+        mode.idx(),
+        dominant.number(),
         delay,
     )
 }
@@ -79,15 +60,15 @@ fn put_line(out: &mut [u8], at: usize, number: u64, o: Observed) -> usize
 // Writes the whole output as far as the buffer goes, and answers its length.
 fn run(text: &[u8], out: &mut [u8]) -> usize
     requires { ⌜ length (now text) ≤ 65536 ⌝ }
-    ensures { λ r. ⌜ Put (now (out .entry)) 0 (replayFrom (freshOf 0) 1 (linesOf (now (text .entry)))) r (now (out .exit)) ⌝ }
+    ensures { λ r. ⌜ Filled (now (out .entry)) 0 (replayFrom (freshOf 0) 1 (linesOf (now (text .entry)))) (now (out .exit)) r ⌝ }
 {
-    let mut state = governor::state::fresh(0);
+    let mut state = state::fresh(0);
     let mut number: u64 = 1;
     let mut at: usize = 0;
     let mut place: usize = 0;
     loop {
         let found = next_line(text, place);
-        let Found::Part { start, end, next } = found else {
+        let LineAt::Part { start, end, next } = found else {
             return at;
         };
         let o = observe_line(state, line_of(&text[start..end]));

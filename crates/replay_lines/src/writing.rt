@@ -2,16 +2,16 @@
 ghost use mathlib.Core.Path.{_≡_};
 ghost use mathlib.Core.List.{[], _∷_};
 ghost use Prim.Native.Nat.{_+_, _≤_, _<_, _^_};
-ghost use Rattle.replay_lines.specs.Lines.{comma};
-ghost use Rattle.replay_lines.specs.Numbers.{spelt};
+ghost use Rattle.lists.specs.Writes.{Filled};
+ghost use Rattle.replay_text.specs.Lines.{comma};
+ghost use Rattle.replay_text.specs.Numbers.{spelt};
 ghost use Rattle.replay_lines.specs.Replay.{five};
-ghost use Rattle.replay_lines.specs.Writing.{Put};
-use crate::lines::COMMA;
-use crate::reader::LF;
+use replay_fields::COMMA;
+use replay_text::reader::LF;
 
 fn put_byte(out: &mut [u8], at: usize, byte: u8) -> usize
     requires { ⌜ at + 1 < 2 ^ 64 ⌝ }
-    ensures { λ r. ⌜ Put (now (out .entry)) at (byte ∷ []) r (now (out .exit)) ⌝ }
+    ensures { λ r. ⌜ Filled (now (out .entry)) at (byte ∷ []) (now (out .exit)) r ⌝ }
 {
     if out.len() <= at {
         return at + 1;
@@ -23,20 +23,20 @@ fn put_byte(out: &mut [u8], at: usize, byte: u8) -> usize
 // A number's decimal digits, at most 20.
 fn put_number(out: &mut [u8], at: usize, n: u64) -> usize
     requires { ⌜ at + 21 < 2 ^ 64 ⌝ }
-    ensures { λ r. ⌜ Put (now (out .entry)) at (spelt n) r (now (out .exit)) ⌝ }
+    ensures { λ r. ⌜ Filled (now (out .entry)) at (spelt n) (now (out .exit)) r ⌝ }
     ensures { λ r. ⌜ r ≤ at + 20 ⌝ }
 {
-    if n < 10 {
-        return put_byte(out, at, 48 + n as u8);
+    let mut next = at;
+    if 10 <= n {
+        next = put_number(out, at, n / 10);
     }
-    let next = put_number(out, at, n / 10);
     put_byte(out, next, 48 + (n % 10) as u8)
 }
 
 // A comma, and the number after it.
 fn put_next(out: &mut [u8], at: usize, n: u64) -> usize
     requires { ⌜ at + 22 < 2 ^ 64 ⌝ }
-    ensures { λ r. ⌜ Put (now (out .entry)) at (comma ∷ spelt n) r (now (out .exit)) ⌝ }
+    ensures { λ r. ⌜ Filled (now (out .entry)) at (comma ∷ spelt n) (now (out .exit)) r ⌝ }
     ensures { λ r. ⌜ r ≤ at + 21 ⌝ }
 {
     let after = put_byte(out, at, COMMA);
@@ -46,7 +46,7 @@ fn put_next(out: &mut [u8], at: usize, n: u64) -> usize
 // Five numbers, parted by commas and ended by LF.
 pub(crate) fn put_five(out: &mut [u8], at: usize, a: u64, b: u64, c: u64, d: u64, e: u64) -> usize
     requires { ⌜ at + 106 < 2 ^ 64 ⌝ }
-    ensures { λ r. ⌜ Put (now (out .entry)) at (five a b c d e) r (now (out .exit)) ⌝ }
+    ensures { λ r. ⌜ Filled (now (out .entry)) at (five a b c d e) (now (out .exit)) r ⌝ }
     ensures { λ r. ⌜ r ≤ at + 105 ⌝ }
 {
     let after_a = put_number(out, at, a);

@@ -1,4 +1,4 @@
--- `short` meets its contract.
+-- `candidates::short` meets its contract.
 use borrow.Author.Tests.{lt-ltb, le-ltb}
 use Rattle.candidates.proofs.short.Statement.{statement}
 use Rattle.candidates.proofs.short.Tie as tie

@@ -10,19 +10,20 @@ use lib.Dec.{T, leb, eqb}
 use lib.Ieee.{binary64, ofBits, toBits, fits, nanBits}
 use lib.Ieee.Bits.{ofBits-toBits, toBits-ofBits, nanBits-is}
 use borrow.Author.Tests.{le-leb, eqb-true}
+use Rattle.lists.specs.Tests.{both}
+use Rattle.lists.specs.Records.{tabulate}
 use Rattle.arith.specs.Floats.Nan.{nan-is}
-use Rattle.governor.specs.declared.pacing.PressureSource.{PressureSource}
-use Rattle.governor.specs.declared.pacing.PressureSource.the-variants as Source
-use Rattle.governor.specs.Numbers.{dominantNumber}
-use Rattle.selection.specs.declared.pick.SelectionTier.{SelectionTier}
-use Rattle.selection.specs.declared.pick.SelectionTier.the-variants as Tier
-use Rattle.selection.specs.PickCall.{tierNumber}
-use Rattle.decisions.specs.declared.decision.ChosenKind.{ChosenKind}
-use Rattle.decisions.specs.declared.decision.ChosenKind.the-variants.{Nothing, L0, LevelBatch, TrivialMove}
-use Rattle.decisions.specs.declared.decision.SchedulingDecision.{SchedulingDecision}
-use Rattle.decisions.specs.declared.decision.DecisionRead.the-variants.{Decision, NoDecision}
-use Rattle.decisions.specs.Decision.{kindNumber, kindLevel, kindLength, wordsOf, kindGood, isDecision, sourceFrom, tierFrom, kindFrom, decisionIn, readOf, readWords}
-use Rattle.decisions.specs.Decision.Good.{both, good, kind-small}
+use Rattle.kinds.specs.declared.vector.PressureSource.{PressureSource}
+use Rattle.kinds.specs.declared.vector.PressureSource.the-variants as Source
+use Rattle.kinds.specs.Numbers.{dominantNumber, tierNumber, kindNumber, kindLevel, kindLength}
+use Rattle.kinds.specs.declared.tier.SelectionTier.{SelectionTier}
+use Rattle.kinds.specs.declared.tier.SelectionTier.the-variants as Tier
+use Rattle.kinds.specs.declared.kind.ChosenKind.{ChosenKind}
+use Rattle.kinds.specs.declared.kind.ChosenKind.the-variants.{None as Nothing, L0, LevelBatch, TrivialMove}
+use Rattle.decisions.specs.declared.SchedulingDecision.{SchedulingDecision}
+use Rattle.decisions.specs.declared.DecisionRead.the-variants.{Decision, None as NoDecision}
+use Rattle.decisions.specs.Decision.{decisionWidth, decisionWords, chosenGood, isDecision, sourceFrom, tierFrom, kindFrom, decisionIn, readOf, readWords}
+use Rattle.decisions.specs.Decision.Good.{good, kind-small}
 
 -- ---- from a decision to its words and back
 
@@ -36,34 +37,23 @@ pub record Held (d : SchedulingDecision) : Type 0 where
   pub «read_relief» : T (fits binary64 (d .«read_relief»))
   pub level : kindLevel (d .chosen) ≤ 2 ^ 32 - 1
 
-source-good : (s : PressureSource) → leb (dominantNumber s) 3 ≡ true
-source-good Source.Nothing = refl
-source-good Source.L0 = refl
-source-good Source.DeepDebt = refl
-source-good Source.Read = refl
-
-source-back : (s : PressureSource) → sourceFrom (dominantNumber s) ≡ s
+-- a case has a number up to 3, and comes back from it
+source-back : (s : PressureSource) → (leb (dominantNumber s) 3 ≡ true) × (sourceFrom (dominantNumber s) ≡ s)
 unfolding sourceFrom
-source-back Source.Nothing = refl
-source-back Source.L0 = refl
-source-back Source.DeepDebt = refl
-source-back Source.Read = refl
+source-back Source.None = (refl, refl)
+source-back Source.L0 = (refl, refl)
+source-back Source.DeepDebt = (refl, refl)
+source-back Source.Read = (refl, refl)
 
-tier-good : (t : SelectionTier) → leb (tierNumber t) 3 ≡ true
-tier-good Tier.NoTier = refl
-tier-good Tier.L0 = refl
-tier-good Tier.FocusContinued = refl
-tier-good Tier.FocusReselected = refl
-
-tier-back : (t : SelectionTier) → tierFrom (tierNumber t) ≡ t
+tier-back : (t : SelectionTier) → (leb (tierNumber t) 3 ≡ true) × (tierFrom (tierNumber t) ≡ t)
 unfolding tierFrom
-tier-back Tier.NoTier = refl
-tier-back Tier.L0 = refl
-tier-back Tier.FocusContinued = refl
-tier-back Tier.FocusReselected = refl
+tier-back Tier.None = (refl, refl)
+tier-back Tier.L0 = (refl, refl)
+tier-back Tier.FocusContinued = (refl, refl)
+tier-back Tier.FocusReselected = (refl, refl)
 
-kind-good : (k : ChosenKind) → kindLevel k ≤ 2 ^ 32 - 1 → kindGood (kindNumber k) (kindLevel k) (kindLength k) ≡ true
-unfolding kindGood
+kind-good : (k : ChosenKind) → kindLevel k ≤ 2 ^ 32 - 1 → chosenGood (kindNumber k) (kindLevel k) (kindLength k) ≡ true
+unfolding chosenGood
 kind-good Nothing h = refl
 kind-good L0 h = refl
 kind-good (LevelBatch l n) h = le-leb l (2 ^ 32 - 1) h
@@ -76,17 +66,17 @@ kind-back L0 = refl
 kind-back (LevelBatch l n) = refl
 kind-back (TrivialMove l) = refl
 
-words-good : (d : SchedulingDecision) → kindLevel (d .chosen) ≤ 2 ^ 32 - 1 → isDecision (wordsOf d) ≡ true
-unfolding isDecision wordsOf
-words-good d h = rw (source-good (d .dominant), tier-good (d .tier), kind-good (d .chosen) h)
+words-good : (d : SchedulingDecision) → kindLevel (d .chosen) ≤ 2 ^ 32 - 1 → isDecision (decisionWords d) ≡ true
+unfolding isDecision decisionWords
+words-good d h = rw (source-back (d .dominant) .0, tier-back (d .tier) .0, kind-good (d .chosen) h)
 
-pub read-back : (d : SchedulingDecision) → Held d → readOf (wordsOf d) ≡ Decision d
-unfolding readOf wordsOf decisionIn
+pub read-back : (d : SchedulingDecision) → Held d → readOf (decisionWords d) ≡ Decision d
+unfolding readOf decisionWords decisionIn
 read-back d h =
     rw (
       words-good d (h .level),
-      source-back (d .dominant),
-      tier-back (d .tier),
+      source-back (d .dominant) .1,
+      tier-back (d .tier) .1,
       kind-back (d .chosen),
       ofBits-toBits binary64 (d .pressure .l0) (h .l0),
       ofBits-toBits binary64 (d .pressure .«deep_debt») (h .«deep_debt»),
@@ -126,12 +116,12 @@ by-four P a b c d (suc (suc (suc zero))) h = d
 by-four P a b c d (suc (suc (suc (suc n)))) h = absurd (omega arith)
 
 -- a kind that is good loses nothing
-kind-again : (k l n : ℕ) → kindGood k l n ≡ true
+kind-again : (k l n : ℕ) → chosenGood k l n ≡ true
     → (kindNumber (kindFrom k l n) ≡ k) × (kindLevel (kindFrom k l n) ≡ l) × (kindLength (kindFrom k l n) ≡ n)
-unfolding kindGood kindFrom
+unfolding chosenGood kindFrom
 kind-again k l n e =
     by-four
-    (λ (k : ℕ). kindGood k l n ≡ true → (kindNumber (kindFrom k l n) ≡ k) × (kindLevel (kindFrom k l n) ≡ l) × (kindLength (kindFrom k l n) ≡ n))
+    (λ (k : ℕ). chosenGood k l n ≡ true → (kindNumber (kindFrom k l n) ≡ k) × (kindLevel (kindFrom k l n) ≡ l) × (kindLength (kindFrom k l n) ≡ n))
     (λ e. (refl, zero-level e, zero-length (eqb l 0) e))
     (λ e. (refl, zero-level e, zero-length (eqb l 0) e))
     (λ e. (refl, refl, refl))
@@ -139,10 +129,10 @@ kind-again k l n e =
     k (kind-small k l n e .0) e
   where
     zero-level : (eqb l 0 && eqb n 0) ≡ true → 0 ≡ l
-    zero-level e = sym (eqb-true l 0 (both e .0))
+    zero-level e = sym (eqb-true l 0 (both _ _ e .0))
 
     zero-length : (b : Bool) → (b && eqb n 0) ≡ true → 0 ≡ n
-    zero-length b e = sym (eqb-true n 0 (both {a = b} e .1))
+    zero-length b e = sym (eqb-true n 0 (both b _ e .1))
 
 source-again : (n : ℕ) → n ≤ 3 → dominantNumber (sourceFrom n) ≡ n
 unfolding sourceFrom
@@ -153,7 +143,7 @@ unfolding tierFrom
 tier-again = by-four (λ (n : ℕ). tierNumber (tierFrom n) ≡ n) refl refl refl refl
 
 pub words-back : (ws : List ℕ) → isDecision ws ≡ true → readWords (readOf ws) ≡ rewritten ws
-unfolding readOf wordsOf decisionIn rewritten again
+unfolding readOf decisionWords decisionIn rewritten again
 words-back ws e =
     let g = good ws e in
     let k = kind-again (getD ws 7 0) (getD ws 8 0) (getD ws 9 0) (g .kind) in
@@ -172,18 +162,14 @@ pub record NoNan (ws : List ℕ) : Type 0 where
   pub «debt_relief» : nanBits binary64 (getD ws 12 0) ≡ false
   pub «read_relief» : nanBits binary64 (getD ws 13 0) ≡ false
 
--- n words from the k-th on, one by one
-unfoldable cells : List ℕ → ℕ → ℕ → List ℕ
-cells ws k zero = []
-cells ws k (suc n) = getD ws k 0 ∷ cells ws (suc k) n
-
-dropped : (ws : List ℕ) (k n : ℕ) → length ws ≡ k + n → drop k ws ≡ cells ws k n
-unfolding cells
+-- what is left from the k-th word on, word by word
+dropped : (ws : List ℕ) (k n : ℕ) → length ws ≡ k + n → drop k ws ≡ tabulate (λ i. getD ws i 0) n k
+unfolding tabulate
 dropped ws k zero e = drop-of-length-le ws {i = k} (omega arith)
 dropped ws k (suc n) e = drop-cons ws k 0 (omega arith) ∙ ap (λ (l : List ℕ). getD ws k 0 ∷ l) (dropped ws (suc k) n (omega arith))
 
-pub same-back : (ws : List ℕ) → isDecision ws ≡ true → ((i : ℕ) → i < 14 → getD ws i 0 < 2 ^ 64) → NoNan ws → readWords (readOf ws) ≡ ws
-unfolding rewritten cells
+pub same-back : (ws : List ℕ) → isDecision ws ≡ true → ((i : ℕ) → i < decisionWidth → getD ws i 0 < 2 ^ 64) → NoNan ws → readWords (readOf ws) ≡ ws
+unfolding rewritten tabulate
 same-back ws e h f =
     words-back ws e
     ∙ rw (
@@ -193,4 +179,4 @@ same-back ws e h f =
       again-same (getD ws 11 0) (h 11 (omega arith)) (f .«l0_relief»),
       again-same (getD ws 12 0) (h 12 (omega arith)) (f .«debt_relief»),
       again-same (getD ws 13 0) (h 13 (omega arith)) (f .«read_relief»),
-    ) (sym (dropped ws 0 14 (good ws e .long)))
+    ) (sym (dropped ws 0 decisionWidth (good ws e .long)))

@@ -9,24 +9,28 @@ use lib.ListN.{length, length-append}
 use lib.Dec.{ltb, eqb}
 use lib.Ieee.{Float}
 use borrow.Author.Tests.{ltb-false, lt-ltb, le-ltb}
-use Rattle.refusals.specs.First.{none}
-use Rattle.governor.specs.declared.state.GovernorState.{GovernorState}
-use Rattle.governor.specs.declared.state.GovernorMode.{GovernorMode}
-use Rattle.governor.specs.declared.state.GovernorMode.the-variants.{Balanced, ReadProtect, WriteEmergency}
-use Rattle.governor.specs.declared.pacing.PressureSource.{PressureSource}
-use Rattle.governor.specs.declared.pacing.PressureSource.the-variants.{Nothing, L0, DeepDebt, Read}
-use Rattle.governor.specs.Numbers.{source, modeNumber, dominantNumber}
-use Rattle.governor.specs.State.{freshOf}
-use Rattle.governor.specs.Observe.{countsLarge, countersFull, observeFault, observedOf}
-use Rattle.governor.specs.Mode.{soundOf}
-use Rattle.governor.specs.Pacing.{pacingOf, dominantOf}
-use Rattle.governor.specs.Pacing.Bounds.{delay-most}
-use Rattle.replay_lines.specs.declared.lines.Line.{Line}
-use Rattle.replay_lines.specs.declared.lines.Line.the-variants.{Observation, BadLine}
-use Rattle.replay_lines.specs.Cases.{by-test}
-use Rattle.replay_lines.specs.Lines.{LF, partsFrom, withoutCR, lastLine, linesOf, fieldsOf}
-use Rattle.replay_lines.specs.Numbers.{digitsUpTo}
-use Rattle.replay_lines.specs.Replay.{five, printed, lineOf, observeLine, replayFrom, replayOf, replayedOf}
+use Rattle.refusals.specs.Refusals.{none}
+use Rattle.state.specs.declared.GovernorState.{GovernorState}
+use Rattle.kinds.specs.declared.mode.GovernorMode.{GovernorMode}
+use Rattle.kinds.specs.declared.mode.GovernorMode.the-variants.{Balanced, ReadProtect, WriteEmergency}
+use Rattle.kinds.specs.declared.vector.PressureSource.{PressureSource}
+use Rattle.kinds.specs.declared.vector.PressureSource.the-variants.{None as Nothing, L0, DeepDebt, Read}
+use Rattle.kinds.specs.Tuning.{source}
+use Rattle.kinds.specs.Numbers.{modeNumber, dominantNumber}
+use Rattle.state.specs.State.{freshOf}
+use Rattle.counts.specs.Counts.{anyLarge}
+use Rattle.governor.specs.Observe.{countersFull, observeFault, observedOf}
+use Rattle.modes.specs.Mode.{soundOf}
+use Rattle.pressure.specs.Pacing.{pacingOf}
+use Rattle.kinds.specs.Vector.{dominantOf}
+use Rattle.pressure.specs.Pacing.Bounds.{delay-most}
+use Rattle.replay_fields.specs.declared.Line.{Line}
+use Rattle.replay_fields.specs.declared.Line.the-variants.{Observation, None as NoLine}
+use Rattle.lists.specs.Tests.{by-test}
+use Rattle.replay_text.specs.Lines.{LF, partsFrom, withoutCR, lastLine, linesOf, fieldsOf}
+use Rattle.replay_text.specs.Numbers.{digitsUpTo}
+use Rattle.replay_fields.specs.Fields.{lineOf}
+use Rattle.replay_lines.specs.Replay.{five, printed, observeLine, replayFrom, replayOf, replayedOf}
 
 -- ---- one line
 
@@ -68,8 +72,8 @@ fault-few false false false = omega arith
 refusal-few : (s : GovernorState) (l : Line) → observeLine s l .refusal < 10
 unfolding observedOf observeFault
 refusal-few s (Observation clock p) =
-    fault-few (not (soundOf source (s .mode) (s .streaks))) (countsLarge (p .«l0_count») (p .«l0_write_stall_trigger») (p .«backlog_levels»)) (countersFull source s clock p)
-refusal-few s BadLine = omega arith
+    fault-few (not (soundOf source (s .mode) (s .streaks))) (anyLarge (p .«l0_count») (p .«l0_write_stall_trigger») (p .«backlog_levels»)) (countersFull source s clock p)
+refusal-few s NoLine = omega arith
 
 printed-few : (n : ℕ) (s : GovernorState) (l : Line) → n < 100000 → length (printed n (observeLine s l)) ≤ 18
 printed-few n s l h =

@@ -1,5 +1,5 @@
 -- The run, one line at a time.
-use mathlib.Core.Path.{_≡_, sym}
+use mathlib.Core.Path.{_≡_, refl, sym}
 use Prim.Native.Nat.{ℕ, _+_, _≤_, _<_}
 use native.Mathlib.Numerals.{add-one}
 use native.Mathlib.Omega.{arith}
@@ -9,11 +9,12 @@ use lib.ListN.{length, drop, length-append}
 use lib.Seq.{length-take-le}
 use lib.Dec.{ltb, eqb}
 use borrow.Author.Tests.{lt-ltb, le-ltb}
-use Rattle.refusals.specs.First.{none, noRoom}
-use Rattle.governor.specs.State.{freshOf}
-use Rattle.governor.specs.declared.state.GovernorState.{GovernorState}
-use Rattle.replay_lines.specs.Lines.{linesOf, fieldsOf}
-use Rattle.replay_lines.specs.Replay.{lineOf, observeLine, printed, replayFrom, replayOf, replayedOf, replayOut, Counts}
+use Rattle.refusals.specs.Refusals.{none, noRoom}
+use Rattle.state.specs.State.{freshOf}
+use Rattle.state.specs.declared.GovernorState.{GovernorState}
+use Rattle.replay_text.specs.Lines.{linesOf, fieldsOf}
+use Rattle.replay_fields.specs.Fields.{lineOf}
+use Rattle.replay_lines.specs.Replay.{observeLine, printed, replayFrom, replayOf, replayedOf, replayOut, Counts}
 
 module _ (s : GovernorState) (n : ℕ) (ls : List (List ℕ)) where
   pub replay-more : (l : List ℕ) (rest : List (List ℕ)) → ls ≡ l ∷ rest
@@ -51,3 +52,8 @@ answer-counts bytes old = go (ltb (length old) (length (replayOf bytes)))
     go : (t : Bool) → Counts (cond (eqb (cond t noRoom 0) none) (length (replayOf bytes)) 0) (cond (eqb (cond t noRoom 0) none) (replayOf bytes ++ drop (length (replayOf bytes)) old) old)
     go true = front 0 old (omega arith)
     go false = front _ _ (omega (arith, length-append (replayOf bytes) (drop (length (replayOf bytes)) old)))
+
+-- what comes back of a part of no length
+pub none-of : (part l : List ℕ) → length part ≡ 0 → part ++ l ≡ l
+none-of [] l h = refl
+none-of (x ∷ part) l h = absurd (omega arith)

@@ -1,4 +1,4 @@
--- `logarithm::entry` meets its contract: the array is the list of specs/Logarithm.antt.
+-- `arith::logarithm::entry` meets its contract: the array is the list of specs/Logarithm.antt.
 -- Assumes nothing.
 use mathlib.Core.Path.{refl}
 use borrow.Author.Needs.{needs}

@@ -1,10 +1,9 @@
--- `logarithm::ln_1p` meets its contract.
+-- `arith::logarithm::ln_1p` meets its contract.
 -- Assumes nothing.
 use Prim.Native.Nat.{_+_, _*_, _^_, _≤_, _<_}
 use mathlib.Core.Path.{_≡_, _∙_}
 use native.Mathlib.Nat.{le-of-lt, mul-one}
 use native.Mathlib.Omega.{arith}
-use borrow.Author.Needs.{needs}
 use lib.Dec.{le→leb, lit<, lit≤}
 use lib.Ieee.{binary64, inFloat}
 use Rattle.arith.specs.Whole.{floatOf, roundedOf}
@@ -30,7 +29,7 @@ small : (c : tie.After-units) → c .units .result < 2 ^ 53
 small c = rw (is c) (units-lt _ (omega (arith, rounded-le (c .before .before .before .args .age) (c .before .before .before .fits .age .fits))))
 
 rounded-requires : tie.Need-rounded-requires
-rounded-requires c κs = search needs
+rounded-requires c κs = tt
 
 normalised-requires : tie.Need-normalised-requires
 normalised-requires c κs =

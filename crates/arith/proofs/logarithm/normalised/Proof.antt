@@ -1,4 +1,4 @@
--- `logarithm::normalised` meets its contract.
+-- `arith::logarithm::normalised` meets its contract.
 -- Assumes nothing.
 use Prim.Native.Nat.{_+_, _*_, _%_, _^_, _<_}
 use mathlib.Core.Path.{_≡_, refl}
@@ -25,7 +25,7 @@ add-m : tie.Need-add-m
 add-m c = omega (arith, below c)
 
 size-requires : tie.Need-size-requires
-size-requires c κs = search needs
+size-requires c κs = tt
 
 sub-k : tie.Need-sub-k
 sub-k c = omega (arith, c .size .ensures, size-gt (c .before .before .args .digits * 2 ^ c .before .before .args .shift % 2 ^ 64 + 1) 0 (omega arith))

@@ -1,4 +1,4 @@
--- `logarithm::remainder` meets its contract.
+-- `arith::logarithm::remainder` meets its contract.
 -- Assumes nothing.
 use Prim.Native.Nat.{ℕ, _+_, _-_, _*_, _/_, _^_, _≤_, _<_}
 use mathlib.Core.Path.{refl}

@@ -1,4 +1,4 @@
--- `logarithm::units` meets its contract.
+-- `arith::logarithm::units` meets its contract.
 -- Assumes nothing.
 use Prim.Native.Nat.{_/_, _%_, _^_}
 use native.Mathlib.Omega.{arith}

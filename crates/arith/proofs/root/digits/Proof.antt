@@ -1,4 +1,4 @@
--- `root::digits` meets its contract: at each place the root and the rest are those of the digits that are taken.
+-- `arith::root::digits` meets its contract: at each place the root and the rest are those of the digits that are taken.
 -- Assumes nothing.
 use Prim.Native.Nat.{_-_}
 use borrow.Author.Needs.{needs}

@@ -1,4 +1,4 @@
--- `root::sqrt` meets its contract.
+-- `arith::root::sqrt` meets its contract.
 -- Assumes nothing.
 use mathlib.Core.Path.{sym, ap, _∙_}
 use Prim.Native.Nat.{_+_, _-_, _/_}
@@ -20,10 +20,10 @@ unfolding ofBits
 returns c = sym (ap rootOf (c .if1 .taken) ∙ root-zero)
 
 rounded-requires : tie.Need-rounded-requires
-rounded-requires c κs = search needs
+rounded-requires c κs = tt
 
 size-requires : tie.Need-size-requires
-size-requires c κs = search needs
+size-requires c κs = tt
 
 add-half : tie.Need-add-half
 add-half c = omega (arith, shape c)

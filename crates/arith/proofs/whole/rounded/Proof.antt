@@ -1,8 +1,7 @@
--- `whole::rounded` meets its contract.
+-- `arith::whole::rounded` meets its contract.
 -- Assumes nothing.
 use Prim.Native.Nat.{_*_, _%_, _^_}
 use native.Mathlib.Omega.{arith}
-use borrow.Author.Needs.{needs}
 use Rattle.arith.proofs.Rounded.{Units, units}
 use Rattle.arith.proofs.whole.rounded.Statement.{statement}
 use Rattle.arith.proofs.whole.rounded.Tie as tie
@@ -11,7 +10,7 @@ known : (c : tie.After-dropped) → Units (c .before .args .n) (c .dropped .resu
 known c = units (c .before .args .n) (c .dropped .result) (c .before .fits .n .fits) (c .dropped .ensures)
 
 dropped-requires : tie.Need-dropped-requires
-dropped-requires c κs = search needs
+dropped-requires c κs = tt
 
 shl-unit : tie.Need-shl-unit
 shl-unit c = omega (arith, known c .few)

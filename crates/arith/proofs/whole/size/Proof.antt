@@ -1,4 +1,4 @@
--- `whole::size` meets its contract.
+-- `arith::whole::size` meets its contract.
 -- Assumes nothing.
 use native.Mathlib.Omega.{arith}
 use Rattle.arith.specs.Whole.Rounding.{leading-size}

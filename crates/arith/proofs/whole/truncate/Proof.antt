@@ -1,4 +1,4 @@
--- `whole::truncate` meets its contract: the tests name -1 and 2^64 by their bits.
+-- `arith::whole::truncate` meets its contract: the tests name -1 and 2^64 by their bits.
 -- Assumes nothing.
 use mathlib.Core.Path.{sym, subst}
 use lib.Dec.{T}

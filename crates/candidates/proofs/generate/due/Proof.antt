@@ -1,4 +1,4 @@
--- `generate::due` meets its contract.
+-- `candidates::generate::due` meets its contract.
 use native.Mathlib.Omega.{arith}
 use borrow.Author.Tests.{lt-ltb}
 use Rattle.candidates.proofs.generate.due.Statement.{statement}

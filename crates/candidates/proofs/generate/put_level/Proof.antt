@@ -1,12 +1,14 @@
--- `generate::put_level` meets its contract. The level and the next stand at the front of their arrays.
+-- `candidates::generate::put_level` meets its contract. The level and the next stand at the front of their arrays.
+use mathlib.Core.Path.{refl}
 use Prim.Native.Nat.{_+_}
 use native.Mathlib.Omega.{arith}
+use lib.ListN.{replicate}
 use denote.Ref.{now}
 use borrow.Author.Needs.{needs}
-use Rattle.tables.specs.Tables.{tablesOf}
-use Rattle.tables.specs.Levels.{placesOf, byKey}
-use Rattle.tables.specs.ListSteps.{places-small, byKey-small, sorted-room}
-use Rattle.tables.specs.Writes.{Fronted, fronted}
+use Rattle.records.specs.Tables.{tablesOf}
+use Rattle.levels.specs.Levels.{placesOf, byKey}
+use Rattle.levels.specs.Bounds.{byKey-small, places-front, sorted-front}
+use Rattle.lists.specs.Writes.{Fronted}
 use Rattle.candidates.proofs.generate.put_level.Statement.{statement}
 use Rattle.candidates.proofs.generate.put_level.Tie as tie
 
@@ -14,28 +16,27 @@ use Rattle.candidates.proofs.generate.put_level.Tie as tie
 first : (c : tie.After-sort-level) → let a = c .before .before .before .before .before .before .args in Fronted (c .sort-level .result) (c .sort-level .last .1 .1 .1 .0) (byKey (now (a .keys)) (tablesOf (now (a .tables))) (a .level))
 first c =
     let a = c .before .before .before .before .before .before .args in
-    let e = sorted-room (now (a .keys)) (tablesOf (now (a .tables))) (a .level) 1024 (c .before .before .before .before .before .before .pre .0 .0) in
-    fronted _ _ _ _ (rw e at (c .sort-level .ensures .0)) (rw e at (c .sort-level .ensures .1)) (omega (arith, byKey-small (now (a .keys)) (tablesOf (now (a .tables))) (a .level), c .before .before .before .before .before .before .pre .0 .0))
+    sorted-front (now (a .keys)) (tablesOf (now (a .tables))) (a .level) (replicate 1024 0) _ _ (c .before .before .before .before .before .before .pre .0 .0) (c .sort-level .ensures)
 
 second : (c : tie.After-level-places) → let a = c .before .before .before .before .before .before .before .before .before .args in Fronted (c .level-places .result) (c .level-places .last .1 .1 .0) (placesOf (a .level + 1) (tablesOf (now (a .tables))))
 second c =
     let a = c .before .before .before .before .before .before .before .before .before .args in
-    fronted _ _ _ _ (c .level-places .ensures .0) (c .level-places .ensures .1) (omega (arith, places-small (a .level + 1) 0 (tablesOf (now (a .tables))), c .before .before .before .before .before .before .before .before .before .pre .0 .0))
+    places-front (tablesOf (now (a .tables))) (a .level + 1) _ _ _ (c .before .before .before .before .before .before .before .before .before .pre .0 .0) (c .level-places .ensures)
 
 slice-aggregate-sort-level : tie.Need-slice-aggregate-sort-level
-slice-aggregate-sort-level c = search needs
+slice-aggregate-sort-level c = refl
 
 sort-level-requires : tie.Need-sort-level-requires
-sort-level-requires c κs = search needs
+sort-level-requires c κs = tt
 
 add-level-places : tie.Need-add-level-places
 add-level-places c = search needs
 
 slice-aggregate-level-places : tie.Need-slice-aggregate-level-places
-slice-aggregate-level-places c = search needs
+slice-aggregate-level-places c = refl
 
 level-places-requires : tie.Need-level-places-requires
-level-places-requires c κs = search needs
+level-places-requires c κs = tt
 
 array-share-prefix-order : tie.Need-array-share-prefix-order
 array-share-prefix-order c = first (c .before .before .before .before) .within
@@ -54,10 +55,10 @@ put-ordered-requires c κs = let a = c .before .before .before .before .before .
     rw (first (c .before .before .before .before .before .before .before .before) .taken, second (c .before .before .before .before .before) .taken) ((c .before .before .before .before .before .before .before .before .before .before .before .before .before .before .pre .0 .1, omega (arith, byKey-small (now (a .keys)) (tablesOf (now (a .tables))) (a .level), c .before .before .before .before .before .before .before .before .before .before .before .before .before .before .pre .0 .0)), c .before .before .before .before .before .before .before .before .before .before .before .before .before .before .pre .1)
 
 same-length : tie.Need-same-length
-same-length c = search needs
+same-length c = c .before .before .before .before .put-ordered .kept .1 .1 .1 .1 .1 .0
 
 same-length-2 : tie.Need-same-length-2
-same-length-2 c = search needs
+same-length-2 c = c .before .before .before .before .put-ordered .kept .1 .1 .1 .1 .1 .1 .0
 
 returns : tie.Need-returns
 returns c = rw (first (c .before .before .before .before .before .before .before .before .before .before .before .before .before) .taken, second (c .before .before .before .before .before .before .before .before .before .before) .taken) at (c .before .before .before .before .put-ordered .ensures)

@@ -1,4 +1,4 @@
--- `generate::put_ordered` meets its contract. The batches begin at the seed; the moves follow.
+-- `candidates::generate::put_ordered` meets its contract. The batches begin at the seed; the moves follow.
 use mathlib.Core.Path.{_≡_, _∙_}
 use Prim.Native.Nat.{_≤_, _-_}
 use native.Mathlib.Omega.{arith}
@@ -6,10 +6,12 @@ use lib.ListN.{take, length, drop, length-drop}
 use lib.Seq.{take-all}
 use denote.Ref.{now}
 use borrow.Author.Needs.{needs}
-use Rattle.candidates.specs.Candidates.{seedOf, levelCandidates}
-use Rattle.tables.specs.Tables.{tablesOf}
+use Rattle.offers.specs.Offers.{seedOf, heldIn, movesOf}
+use Rattle.candidates.specs.Candidates.{levelOffers}
+use Rattle.records.specs.Tables.{tablesOf}
 use Rattle.candidates.specs.Writing.{fit-left, fit-right, written-append}
-use Rattle.candidates.specs.Small.{seed-small}
+use Rattle.offers.specs.Batches.{seed-small}
+use Rattle.offers.specs.Moves.{moves-small}
 use Rattle.candidates.proofs.generate.put_ordered.Statement.{statement}
 use Rattle.candidates.proofs.generate.put_ordered.Tie as tie
 
@@ -22,8 +24,15 @@ run c =
     let ps = now (c .before .before .before .before .before .before .before .args .order) in
     take-all (length ps - c .seed .result) (drop (c .seed .result) ps) (simp length-drop (omega arith)) ∙ rw (c .seed .ensures)
 
+-- the order is short enough for all of it to be looked at
+held : (c : tie.After-free-moves) → let a = c .before .before .before .before .before .before .before .before .before .before .before .before .before .before .before .before .args in (c .free-moves .result .len ≤ 8) × (heldIn (c .free-moves .result) ≡ movesOf (now (a .keys)) (tablesOf (now (a .tables))) (now (a .next)) (now (a .order)))
+held c =
+    let a = c .before .before .before .before .before .before .before .before .before .before .before .before .before .before .before .before .args in
+    let h = rw (take-all 1024 (now (a .order)) (c .before .before .before .before .before .before .before .before .before .before .before .before .before .before .before .before .pre .0 .1)) at (c .free-moves .ensures) in
+    (omega (arith, h .count, moves-small (now (a .keys)) (tablesOf (now (a .tables))) (now (a .next)) (now (a .order))), h .places)
+
 seed-requires : tie.Need-seed-requires
-seed-requires c κs = search needs
+seed-requires c κs = tt
 
 mul-put-batches : tie.Need-mul-put-batches
 mul-put-batches c = omega (arith, within c)
@@ -38,25 +47,25 @@ part-put-batches-end : tie.Need-part-put-batches-end
 part-put-batches-end c = search needs
 
 put-batches-requires : tie.Need-put-batches-requires
-unfolding levelCandidates
+unfolding levelOffers
 put-batches-requires c κs = (c .before .before .before .before .before .before .before .before .before .before .pre .0 .0, rw (run (c .before .before .before)) (fit-left _ _ _ (c .before .before .before .before .before .before .before .before .before .before .pre .1)))
 
 free-moves-requires : tie.Need-free-moves-requires
-free-moves-requires c κs = search needs
+free-moves-requires c κs = tt
 
 put-moves-requires : tie.Need-put-moves-requires
-unfolding levelCandidates
-put-moves-requires c κs = ((c .before .before .before .before .before .before .before .before .before .before .before .before .before .before .before .before .before .before .pre .0 .0, c .before .before .free-moves .ensures .0), rw (c .before .before .free-moves .ensures .1) (fit-right _ _ _ _ _ _ _ _ (c .before .before .before .before .before .before .before .before .before .before .before .before .before .before .before .before .before .before .pre .1) (rw (run (c .before .before .before .before .before .before .before .before .before .before .before)) at (c .before .before .before .before .before .before .before .put-batches .ensures))))
+unfolding levelOffers
+put-moves-requires c κs = ((c .before .before .before .before .before .before .before .before .before .before .before .before .before .before .before .before .before .before .pre .0 .0, held (c .before .before) .0), rw (held (c .before .before) .1) (fit-right _ _ _ _ _ _ _ _ (c .before .before .before .before .before .before .before .before .before .before .before .before .before .before .before .before .before .before .pre .1) (rw (run (c .before .before .before .before .before .before .before .before .before .before .before)) at (c .before .before .before .before .before .before .before .put-batches .ensures))))
 
 same-length : tie.Need-same-length
-same-length c = search needs
+same-length c = c .before .before .before .before .put-moves .kept .1 .1 .1 .0 ∙ c .before .before .before .before .before .before .before .before .before .before .before .before .put-batches .kept .1 .1 .1 .1 .1 .0
 
 same-length-2 : tie.Need-same-length-2
-same-length-2 c = search needs
+same-length-2 c = c .before .before .before .before .put-moves .kept .1 .1 .1 .1 .0 ∙ c .before .before .before .before .before .before .before .before .before .before .before .before .put-batches .kept .1 .1 .1 .1 .1 .1 .0
 
 returns : tie.Need-returns
-unfolding levelCandidates
-returns c = written-append _ _ _ _ _ _ _ _ _ _ _ (rw (run (c .before .before .before .before .before .before .before .before .before .before .before .before .before .before .before .before)) at (c .before .before .before .before .before .before .before .before .before .before .before .before .put-batches .ensures)) (rw (c .before .before .before .before .before .before .before .free-moves .ensures .1) at (c .before .before .before .before .put-moves .ensures))
+unfolding levelOffers
+returns c = written-append _ _ _ _ _ _ _ _ _ _ _ (rw (run (c .before .before .before .before .before .before .before .before .before .before .before .before .before .before .before .before)) at (c .before .before .before .before .before .before .before .before .before .before .before .before .put-batches .ensures)) (rw (held (c .before .before .before .before .before .before .before) .1) at (c .before .before .before .before .put-moves .ensures))
 
 pub put-ordered-spec : {M : Type 1} → statement M
 put-ordered-spec =

@@ -1,6 +1,6 @@
 -- `governor::engine::probe_sum_full` meets its contract.
 use Prim.Native.Nat.{_-_, _^_}
-use Rattle.governor.proofs.Room.{room}
+use Rattle.state.specs.Room.{room}
 use native.Mathlib.Omega.{arith}
 use borrow.Author.Needs.{needs}
 use Rattle.governor.proofs.engine.probe_sum_full.Statement.{statement}

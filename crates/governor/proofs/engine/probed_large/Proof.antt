@@ -1,7 +1,7 @@
 -- `governor::engine::probed_large` meets its contract.
-use Rattle.governor.proofs.Room.{sub-parts}
+use Rattle.state.specs.Room.{sub-parts}
 use Rattle.governor.specs.Engine.{probedSince}
-use Rattle.governor.specs.Observe.{large}
+use Rattle.counts.specs.Counts.{large}
 use borrow.Author.Tests.{ltb-true, ltb-false, lt-ltb}
 use Prim.Native.Nat.{_^_}
 use mathlib.Core.Path.{sym, ap, _∙_}

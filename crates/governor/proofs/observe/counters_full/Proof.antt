@@ -3,8 +3,8 @@ use Rattle.governor.specs.Observe.{countersFull}
 use Rattle.governor.proofs.observe.counters_full.Statement.{statement}
 use Rattle.governor.proofs.observe.counters_full.Tie as tie
 
-turn-requires : tie.Need-turn-requires
-turn-requires c κs = c .pre
+next-requires : tie.Need-next-requires
+next-requires c κs = tt
 
 are-different-requires : tie.Need-are-different-requires
 are-different-requires c κs = tt
@@ -17,7 +17,7 @@ time-full-requires c κs = tt
 
 returns : tie.Need-returns
 unfolding countersFull
-returns c = simp (← c .before .before .before .turn .ensures, ← c .before .before .are-different .ensures, c .before .switches-full .ensures, c .time-full .ensures)
+returns c = simp (← c .before .before .before .next .ensures, ← c .before .before .are-different .ensures, c .before .switches-full .ensures, c .time-full .ensures)
 
 pub counters-full-spec : {M : Type 1} → statement M
-counters-full-spec = tie.close (tie.spec turn-requires are-different-requires switches-full-requires time-full-requires returns)
+counters-full-spec = tie.close (tie.spec next-requires are-different-requires switches-full-requires time-full-requires returns)

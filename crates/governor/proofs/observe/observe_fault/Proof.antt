@@ -1,7 +1,5 @@
 -- `governor::observe::observe_fault` meets its contract.
 use Rattle.governor.specs.Observe.{observeFault}
-use borrow.Author.Tests.{not-false}
-use mathlib.Core.Path.{sym, _∙_}
 use Rattle.governor.proofs.observe.observe_fault.Statement.{statement}
 use Rattle.governor.proofs.observe.observe_fault.Tie as tie
 
@@ -12,23 +10,23 @@ returns : tie.Need-returns
 unfolding observeFault
 returns c = simp (← c .before .is-sound .ensures, c .if1 .taken)
 
-counts-large-requires : tie.Need-counts-large-requires
-counts-large-requires c κs = tt
+any-large-requires : tie.Need-any-large-requires
+any-large-requires c κs = tt
 
 returns-2 : tie.Need-returns-2
 unfolding observeFault
-returns-2 c = simp (← c .before .before .before .is-sound .ensures, c .before .before .if1 .left, ← c .before .counts-large .ensures, c .if2 .taken)
+returns-2 c = simp (← c .before .before .before .is-sound .ensures, c .before .before .if1 .left, ← c .before .any-large .ensures, c .if2 .taken)
 
 counters-full-requires : tie.Need-counters-full-requires
-counters-full-requires c κs = sym (c .before .before .before .is-sound .ensures) ∙ not-false _ (c .before .before .if1 .left)
+counters-full-requires c κs = tt
 
 returns-3 : tie.Need-returns-3
 unfolding observeFault
-returns-3 c = simp (← c .before .before .before .before .before .is-sound .ensures, c .before .before .before .before .if1 .left, ← c .before .before .before .counts-large .ensures, c .before .before .if2 .left, ← c .before .counters-full .ensures, c .if3 .taken)
+returns-3 c = simp (← c .before .before .before .before .before .is-sound .ensures, c .before .before .before .before .if1 .left, ← c .before .before .before .any-large .ensures, c .before .before .if2 .left, ← c .before .counters-full .ensures, c .if3 .taken)
 
 returns-4 : tie.Need-returns-4
 unfolding observeFault
-returns-4 c = simp (← c .before .before .before .before .before .is-sound .ensures, c .before .before .before .before .if1 .left, ← c .before .before .before .counts-large .ensures, c .before .before .if2 .left, ← c .before .counters-full .ensures, c .if3 .left)
+returns-4 c = simp (← c .before .before .before .before .before .is-sound .ensures, c .before .before .before .before .if1 .left, ← c .before .before .before .any-large .ensures, c .before .before .if2 .left, ← c .before .counters-full .ensures, c .if3 .left)
 
 pub observe-fault-spec : {M : Type 1} → statement M
 observe-fault-spec =
@@ -36,7 +34,7 @@ observe-fault-spec =
     (tie.spec
     is-sound-requires
     returns
-    counts-large-requires
+    any-large-requires
     returns-2
     counters-full-requires
     returns-3

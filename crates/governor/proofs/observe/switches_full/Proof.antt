@@ -1,5 +1,5 @@
 -- `governor::observe::switches_full` meets its contract.
-use Rattle.governor.proofs.Room.{full-is}
+use Rattle.state.specs.Room.{full-is}
 use native.Mathlib.Omega.{arith}
 use Rattle.governor.proofs.observe.switches_full.Statement.{statement}
 use Rattle.governor.proofs.observe.switches_full.Tie as tie

@@ -1,13 +1,13 @@
 -- `replay_lines::run::replay` meets its contract.
 use Rattle.replay_lines.specs.Replay.{replayFrom, replayedOf, replayOut, Counts}
-use Rattle.replay_lines.specs.declared.lines.Replayed.{Replayed}
-use Rattle.replay_lines.specs.Lines.{linesOf}
-use Rattle.governor.specs.State.{freshOf}
+use Rattle.replay_lines.specs.declared.run.Replayed.{Replayed}
+use Rattle.replay_text.specs.Lines.{linesOf}
+use Rattle.state.specs.State.{freshOf}
 use Prim.Native.Nat.{ℕ, _≤_}
 use lib.ListN.{length}
 use native.Mathlib.Nat.{zero-add}
-use Rattle.replay_lines.specs.Writing.{put-whole, none-of}
-use Rattle.replay_lines.specs.Replay.Steps.{replay-over, replay-within, answered, refused, answer-counts}
+use Rattle.lists.specs.Writes.{sets-front}
+use Rattle.replay_lines.specs.Replay.Steps.{replay-over, replay-within, answered, refused, answer-counts, none-of}
 use denote.Ref.{now}
 use mathlib.Core.List.{List, []}
 use mathlib.Core.Path.{_≡_, sym, _∙_}
@@ -37,9 +37,13 @@ same-length : tie.Need-same-length
 same-length c = search needs
 
 returns-2 : tie.Need-returns-2
-returns-2 c = let out = now (c .before .before .before .before .before .before .before .before .args .out) in
-    let r = refused _ out _ (sym (replay-within (now (c .before .before .before .before .before .before .before .before .args .text)) (c .before .before .before .before .before .if1 .left))) (omega (arith, c .before .before .before .run .ensures .place)) in
-    counted (now (c .before .before .before .before .before .before .before .before .args .text)) out _ _ (r .0, none-of (c .before .before .before .run .last .1 .0) out (c .before .before .before .run .kept .1 .0) ∙ r .1)
+returns-2 c =
+    let r = c .before .before .before in
+    let i = r .before .before in
+    let a = i .before .before .before .args in
+    let is = sym (replay-within (now (a .text)) (i .if1 .left)) in
+    let no = refused _ (now (a .out)) _ is (omega (arith, r .run .ensures .ends)) in
+    counted (now (a .text)) (now (a .out)) _ _ (no .0, none-of (r .run .last .1 .0) (now (a .out)) (r .run .kept .1 .0) ∙ no .1)
 
 run-requires-2 : tie.Need-run-requires-2
 run-requires-2 c κs = search needs
@@ -48,11 +52,17 @@ same-length-2 : tie.Need-same-length-2
 same-length-2 c = search needs
 
 returns-3 : tie.Need-returns-3
-returns-3 c = let out = now (c .before .before .before .before .before .before .before .before .before .before .before .before .args .out) in let text = now (c .before .before .before .before .before .before .before .before .before .before .before .before .args .text) in
-    let p = rw (none-of (c .before .before .before .before .before .before .before .run .last .1 .0) out (c .before .before .before .before .before .before .before .run .kept .1 .0)) at (c .before .before .run2 .ensures) in
-    let room : length (replayFrom (freshOf 0) 1 (linesOf text)) ≤ length out = omega (arith, c .before .before .before .before .before .before .before .run .ensures .place) in
-    let a = answered _ out _ (sym (replay-within text (c .before .before .before .before .before .before .before .before .before .if1 .left))) room in
-    counted text out _ _ (rw (c .before .before .before .before .before .before .before .run .ensures .place, zero-add) (a .0), put-whole p room ∙ a .1)
+returns-3 c =
+    let r = c .before .before .before .before .before .before .before in
+    let i = r .before .before in
+    let a = i .before .before .before .args in
+    let text = now (a .text) in
+    let out = now (a .out) in
+    let printed = replayFrom (freshOf 0) 1 (linesOf text) in
+    let room : length printed ≤ length out = omega (arith, r .run .ensures .ends) in
+    let f = rw (none-of (r .run .last .1 .0) out (r .run .kept .1 .0)) at (c .before .before .run2 .ensures) in
+    let yes = answered _ out _ (sym (replay-within text (i .if1 .left))) room in
+    counted text out _ _ (rw (r .run .ensures .ends, zero-add) (yes .0), f .stands ∙ sets-front printed out room ∙ yes .1)
 
 pub replay-spec : {M : Type 1} → statement M
 replay-spec =

@@ -1,14 +1,12 @@
--- `replay_lines::run::run` meets its contract.
+-- `replay_lines::run::run` meets its contract. The invariant: what is left to write is what the lines from `place` on print, and `place` bounds the line number and the bytes written.
 use Rattle.replay_lines.specs.Replay.Steps.{replay-more, replay-end}
-use Rattle.replay_lines.specs.Lines.NextLine.{IsLine, found-says}
-use mathlib.Core.Path.{_∙_}
+use Rattle.replay_text.specs.Lines.NextLine.{IsLine, line-at-says}
 use denote.Ref.{now}
-use Rattle.replay_lines.specs.Writing.{Left, left-put, left-end}
+use Rattle.lists.specs.Writes.{Filling, fill-start, fill-part, fill-end}
 use Rattle.replay_lines.specs.Replay.{replayFrom}
-use Rattle.replay_lines.specs.Lines.{linesOf}
-use Rattle.governor.specs.State.{freshOf}
+use Rattle.replay_text.specs.Lines.{linesOf}
+use Rattle.state.specs.State.{freshOf}
 use lib.ListN.{length, drop}
-use mathlib.Core.Path.{_≡_, refl}
 use Prim.Native.Nat.{_+_, _-_, _*_, _≤_}
 use borrow.Author.Needs.{needs}
 use native.Mathlib.Omega.{arith}
@@ -20,24 +18,26 @@ Inv-loop text out₀ state₀ number₀ at₀ place₀ out state number at place
     (place ≤ length text)
     × (number ≤ place + 1)
     × (at ≤ 105 * place)
-    × (length out ≡ length out₀)
-    × Left out₀ out at (replayFrom state number (linesOf (drop place text))) (replayFrom (freshOf 0) 1 (linesOf text))
+    × Filling out₀ 0 (replayFrom (freshOf 0) 1 (linesOf text)) out at (replayFrom state number (linesOf (drop place text)))
 
 abbrev μ-loop : tie.MeasureT-loop
 μ-loop text out₀ state₀ number₀ at₀ place₀ out state number at place = length text - place
 
 -- the line that was found
-here : (c : tie.After-found Inv-loop μ-loop) → IsLine (now (c .before .before .before .before .before .before .before .args .text)) (c .before .before .before .loop .place) (c .found .given .0 .0) (c .found .given .0 .1 .0) (c .found .given .0 .1 .1 .0)
-here c = rw (← (c .before .before .next-line .ensures), c .found .given .1) at (found-says (now (c .before .before .before .before .before .before .before .args .text)) (c .before .before .before .loop .place))
+here : (c : tie.After-found Inv-loop μ-loop)
+    → IsLine (now (c .before .before .before .before .before .before .before .args .text)) (c .before .before .before .loop .place) (c .found .given .0 .0) (c .found .given .0 .1 .0) (c .found .given .0 .1 .1 .0)
+here c =
+    let l = c .before .before .before in
+    rw (← (c .before .before .next-line .ensures), c .found .given .1) at (line-at-says (now (l .before .before .before .before .args .text)) (l .loop .place))
 
 fresh-requires : tie.Need-fresh-requires Inv-loop μ-loop
-fresh-requires c κs = search needs
+fresh-requires c κs = tt
 
 loop-holds : tie.Need-loop-holds Inv-loop μ-loop
-loop-holds c = (omega arith, omega arith, omega arith, refl, record { place = rw (c .fresh .ensures) (omega arith); filled = rw (c .fresh .ensures) })
+loop-holds c = (omega arith, omega arith, omega arith, rw (c .fresh .ensures) (fill-start _ _ _))
 
 next-line-requires : tie.Need-next-line-requires Inv-loop μ-loop
-next-line-requires c κs = search needs
+next-line-requires c κs = tt
 
 enum-known-found : tie.Need-enum-known-found Inv-loop μ-loop
 enum-known-found c = search needs
@@ -49,9 +49,10 @@ same-length : tie.Need-same-length Inv-loop μ-loop
 same-length c = search needs
 
 returns : tie.Need-returns Inv-loop μ-loop
-returns c = let l = c .before .before .before .loop in
-    let e = replay-end (l .state) (l .number) _ (rw (← (c .before .before .next-line .ensures), c .enum-told .given .1) at (found-says (now (c .before .before .before .before .before .before .before .args .text)) (l .place))) in
-    left-end (rw e at (l .inv .4))
+returns c =
+    let l = c .before .before .before in
+    let says = rw (← (c .before .before .next-line .ensures), c .enum-told .given .1) at (line-at-says (now (l .before .before .before .before .args .text)) (l .loop .place)) in
+    fill-end _ _ _ _ _ (rw (replay-end (l .loop .state) (l .loop .number) _ says) at (l .loop .inv .3))
 
 sub-line-of : tie.Need-sub-line-of Inv-loop μ-loop
 sub-line-of c = here (c .before) .order
@@ -63,25 +64,39 @@ part-line-of-end : tie.Need-part-line-of-end Inv-loop μ-loop
 part-line-of-end c = here (c .before) .room
 
 line-of-requires : tie.Need-line-of-requires Inv-loop μ-loop
-line-of-requires c κs = search needs
+line-of-requires c κs = tt
 
 observe-line-requires : tie.Need-observe-line-requires Inv-loop μ-loop
-observe-line-requires c κs = search needs
+observe-line-requires c κs = tt
 
 put-line-requires : tie.Need-put-line-requires Inv-loop μ-loop
-put-line-requires c κs = omega (arith, c .before .before .before .before .before .before .before .before .loop .inv, c .before .before .before .before .before .before .before .before .before .before .before .before .pre)
+put-line-requires c κs =
+    let l = c .before .before .before .before .before .before .before .before in
+    omega (arith, l .loop .inv, l .before .before .before .before .pre)
 
 add-number : tie.Need-add-number Inv-loop μ-loop
-add-number c = omega (arith, c .before .before .before .before .before .before .before .before .before .before .before .before .loop .inv, c .before .before .before .before .before .before .before .before .before .before .before .before .before .before .before .before .pre)
+add-number c =
+    let l = c .before .before .before .before .before .before .before .before .before .before .before .before in
+    omega (arith, l .loop .inv, l .before .before .before .before .pre)
 
 loop-less : tie.Need-loop-less Inv-loop μ-loop
-loop-less c = omega (arith, here (c .before .before .before .before .before .before .before .before .before) .on, here (c .before .before .before .before .before .before .before .before .before) .within)
+loop-less c =
+    let h = here (c .before .before .before .before .before .before .before .before .before) in
+    omega (arith, h .on, h .within)
 
 loop-again : tie.Need-loop-again Inv-loop μ-loop
-loop-again c = let h = here (c .before .before .before .before .before .before .before .before .before) in let l = c .before .before .before .before .before .before .before .before .before .before .before .before .loop in let o = c .before .before .before .before .before .observe-line .ensures in
-    let e = replay-more (l .state) (l .number) _ _ _ (h .lines) in
-    let p = c .before .before .before .put-line .ensures in
-    (h .within, omega (arith, h .on, l .inv), omega (arith, h .on, l .inv, p .1), c .before .before .before .put-line .kept .0 ∙ l .inv .3, left-put (p .0) (rw (o, c .before .before .before .before .before .before .line-of .ensures, ← e) (l .inv .4)))
+loop-again c =
+    let p = c .before .before .before in
+    let o = p .before .before in
+    let f = o .before .before .before .before in
+    let h = here f in
+    let l = f .before .before .before .loop in
+    let e = replay-more (l .state) (l .number) _ _ _ (h .lines) in (
+      h .within,
+      omega (arith, h .on, l .inv),
+      omega (arith, h .on, l .inv, p .put-line .ensures .1),
+      fill-part _ _ _ _ _ _ _ _ _ (rw (o .observe-line .ensures, o .before .line-of .ensures, ← e) (l .inv .3)) (p .put-line .ensures .0),
+    )
 
 pub run-spec : {M : Type 1} → statement M
 run-spec =

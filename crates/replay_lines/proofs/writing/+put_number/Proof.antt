@@ -1,11 +1,14 @@
--- `replay_lines::writing::+put_number` meets its contract.
-use mathlib.Core.Path.{ap}
-use lib.ListN.{length}
+-- `replay_lines::writing::put_number` meets its contract.
 use borrow.Author.Needs.{needs}
 use native.Mathlib.Omega.{arith}
-use Prim.Native.Nat.{ℕ, _<_}
-use Rattle.replay_lines.specs.Numbers.Digits.{spelt-one, spelt-more, spelt-within}
-use Rattle.replay_lines.specs.Writing.{put-then}
+use Prim.Native.Nat.{ℕ, _+_, _%_, _^_, _≤_, _<_}
+use mathlib.Core.Logic.{⊎-elim}
+use mathlib.Core.Path.{refl, ap, _∙_}
+use lib.ListN.{length}
+use mathlib.Core.List.{List, [], _∷_}
+use Rattle.lists.specs.Writes.{Filled, filled-append}
+use Rattle.replay_text.specs.Numbers.{spelt}
+use Rattle.replay_text.specs.Numbers.Digits.{leading, leading-none, leading-some, spelt-last, spelt-within}
 use borrow.Fn.Kinds.{In}
 use borrow.Fn.PlainCycle.{Measures, is, falls, and}
 use Rattle.replay_lines.proofs.writing.put_number.Reads as put-number
@@ -26,114 +29,28 @@ abbrev put-number-below : ℕ → In 1 put-number-kinds.ps
 put-number-below t =
     and 1 put-number-kinds.ps (falls 1 put-number-kinds.ps _<_ μ-put-number t) put-number.Pre
 
-put-number-cast-put-byte : (t : ℕ) → put-number-lts.Need-cast-put-byte (
-  put-byte-reads.Asked,
-  put-byte-reads.Learnt,
-  put-number-below t,
-  put-number.Post,
-) (put-number-at t) put-number.Post
-put-number-cast-put-byte t c = search needs
-
-put-number-add-put-byte : (t : ℕ) → put-number-lts.Need-add-put-byte (
-  put-byte-reads.Asked,
-  put-byte-reads.Learnt,
-  put-number-below t,
-  put-number.Post,
-) (put-number-at t) put-number.Post
-put-number-add-put-byte t c = search needs
-
-put-number-put-byte-requires : (t : ℕ) → put-number-lts.Need-put-byte-requires (
-  put-byte-reads.Asked,
-  put-byte-reads.Learnt,
-  put-number-below t,
-  put-number.Post,
-) (put-number-at t) put-number.Post
-put-number-put-byte-requires t c κs = search needs
-
-put-number-same-length : (t : ℕ) → put-number-lts.Need-same-length (
-  put-byte-reads.Asked,
-  put-byte-reads.Learnt,
-  put-number-below t,
-  put-number.Post,
-) (put-number-at t) put-number.Post
-put-number-same-length t c = search needs
-
-put-number-returns : (t : ℕ) → put-number-lts.Need-returns (
-  put-byte-reads.Asked,
-  put-byte-reads.Learnt,
-  put-number-below t,
-  put-number.Post,
-) (put-number-at t) put-number.Post
-put-number-returns t c = (rw (spelt-one (c .before .before .before .before .before .before .args .n) (c .before .before .before .before .if1 .taken)) (c .before .before .put-byte .ensures), omega (arith, c .before .before .put-byte .ensures .place))
-
-put-number-put-number-requires : (t : ℕ) → put-number-lts.Need-put-number-requires (
-  put-byte-reads.Asked,
-  put-byte-reads.Learnt,
-  put-number-below t,
-  put-number.Post,
-) (put-number-at t) put-number.Post
-put-number-put-number-requires t c κs = (omega (arith, c .before .before .before .pre .0), omega (arith, c .before .before .before .pre .1))
-
-put-number-cast-put-byte-2 : (t : ℕ) → put-number-lts.Need-cast-put-byte-2 (
-  put-byte-reads.Asked,
-  put-byte-reads.Learnt,
-  put-number-below t,
-  put-number.Post,
-) (put-number-at t) put-number.Post
-put-number-cast-put-byte-2 t c = search needs
-
-put-number-add-put-byte-2 : (t : ℕ) → put-number-lts.Need-add-put-byte-2 (
-  put-byte-reads.Asked,
-  put-byte-reads.Learnt,
-  put-number-below t,
-  put-number.Post,
-) (put-number-at t) put-number.Post
-put-number-add-put-byte-2 t c = search needs
-
-put-number-put-byte-requires-2 : (t : ℕ) → put-number-lts.Need-put-byte-requires-2 (
-  put-byte-reads.Asked,
-  put-byte-reads.Learnt,
-  put-number-below t,
-  put-number.Post,
-) (put-number-at t) put-number.Post
-put-number-put-byte-requires-2 t c κs = omega (arith, c .before .before .before .before .before .before .before .pre .1)
-
-put-number-same-length-2 : (t : ℕ) → put-number-lts.Need-same-length-2 (
-  put-byte-reads.Asked,
-  put-byte-reads.Learnt,
-  put-number-below t,
-  put-number.Post,
-) (put-number-at t) put-number.Post
-put-number-same-length-2 t c = search needs
-
-put-number-returns-2 : (t : ℕ) → put-number-lts.Need-returns-2 (
-  put-byte-reads.Asked,
-  put-byte-reads.Learnt,
-  put-number-below t,
-  put-number.Post,
-) (put-number-at t) put-number.Post
-put-number-returns-2 t c =
-    let e = spelt-more (c .before .before .before .before .before .before .before .before .before .before .args .n) (c .before .before .before .before .before .before .before .before .if1 .left) (search needs) in
-    let p = put-then (c .before .before .before .before .before .before .put-number .ensures .0) (c .before .before .put-byte2 .ensures) in
-    (rw e p, omega (arith, p .place, ap length e, spelt-within (c .before .before .before .before .before .before .before .before .before .before .args .n)))
+-- the last digit after the digits before it
+ended : (old mid new : List ℕ) (at next end n : ℕ) → n < 2 ^ 64 → Filled old at (leading n) mid next → Filled mid next ((48 + n % 10) ∷ []) new end
+    → Filled old at (spelt n) new end × (end ≤ at + 20)
+ended old mid new at next end n h f g =
+    let w = rw (← (spelt-last n h)) at (filled-append _ _ _ _ _ _ _ _ f g) in
+    (w, omega (arith, w .ends, spelt-within n))
 
 pub +put-number-spec : {M : Type 1} → statement M
 +put-number-spec = close μ-put-number λ t. put-number-lts.spec (
-  put-byte-reads.Asked,
-  put-byte-reads.Learnt,
   put-number-below t,
   put-number.Post,
+  put-byte-reads.Asked,
+  put-byte-reads.Learnt,
 )
     (put-number-at t)
     put-number.Post
-    (put-number-cast-put-byte t)
-    (put-number-add-put-byte t)
-    (put-number-put-byte-requires t)
-    (put-number-same-length t)
-    (put-number-returns t)
-    (put-number-put-number-requires t)
-    (put-number-cast-put-byte-2 t)
-    (put-number-add-put-byte-2 t)
-    (put-number-put-byte-requires-2 t)
-    (put-number-same-length-2 t)
-    (put-number-returns-2 t)
+    (λ c κs. (omega (arith, c .before .before .before .pre .0), omega (arith, c .before .before .before .pre .1)))
+    (search needs)
+    (search needs)
+    (λ c κs. ⊎-elim (λ w. omega (arith, w .2 .ensures .1, w .6)) (λ w. omega (arith, w .2)) (c .before .if1 .came))
+    (λ c. c .before .before .put-byte .kept .0 ∙ ⊎-elim (λ w. ap length (w .5) ∙ w .2 .kept .0) (λ w. ap length (w .1)) (c .before .before .before .before .if1 .came))
+    (λ c. let j = c .before .before .before .before in let n = j .before .before .args .n in
+    ended _ _ _ _ _ _ n (omega arith)
+    (⊎-elim (λ w. rw (leading-some n (w .0 .taken), w .5, w .6) (w .2 .ensures .0)) (λ w. rw (leading-none n (w .0 .left), w .1, w .2) (record { ends = omega arith; stands = refl })) (j .if1 .came))
+    (c .before .before .put-byte .ensures))

@@ -10,7 +10,7 @@ add-result : tie.Need-add-result
 add-result c = search needs
 
 returns : tie.Need-returns
-returns c = record { place = refl; filled = sym (set-out (now (c .before .args .out)) (c .before .args .at) (c .before .args .byte) (c .if1 .taken)) }
+returns c = record { ends = refl; stands = sym (set-out (now (c .before .args .out)) (c .before .args .at) (c .before .args .byte) (c .if1 .taken)) }
 
 slice-write-out : tie.Need-slice-write-out
 slice-write-out c = search needs
@@ -22,7 +22,7 @@ same-length : tie.Need-same-length
 same-length c = search needs
 
 returns-2 : tie.Need-returns-2
-returns-2 c = record { place = refl; filled = refl }
+returns-2 c = record { ends = refl; stands = refl }
 
 pub put-byte-spec : {M : Type 1} → statement M
 put-byte-spec =

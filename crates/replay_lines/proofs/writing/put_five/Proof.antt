@@ -1,5 +1,5 @@
 -- `replay_lines::writing::put_five` meets its contract.
-use Rattle.replay_lines.specs.Writing.{put-then}
+use Rattle.lists.specs.Writes.{filled-append}
 use native.Mathlib.Omega.{arith}
 use borrow.Author.Needs.{needs}
 use Rattle.replay_lines.proofs.writing.put_five.Statement.{statement}
@@ -27,7 +27,20 @@ same-length : tie.Need-same-length
 same-length c = search needs
 
 returns : tie.Need-returns
-returns c = (put-then (put-then (put-then (put-then (put-then (c .before .before .before .before .before .before .before .before .before .before .before .before .before .before .before .before .before .before .before .before .before .before .put-number .ensures .0) (c .before .before .before .before .before .before .before .before .before .before .before .before .before .before .before .before .before .before .put-next .ensures .0)) (c .before .before .before .before .before .before .before .before .before .before .before .before .before .before .put-next2 .ensures .0)) (c .before .before .before .before .before .before .before .before .before .before .put-next3 .ensures .0)) (c .before .before .before .before .before .before .put-next4 .ensures .0)) (c .before .before .put-byte .ensures), omega (arith, c .before .before .before .before .before .before .before .before .before .before .before .before .before .before .before .before .before .before .before .before .before .before .put-number .ensures .1, c .before .before .before .before .before .before .before .before .before .before .before .before .before .before .before .before .before .before .put-next .ensures .1, c .before .before .before .before .before .before .before .before .before .before .before .before .before .before .put-next2 .ensures .1, c .before .before .before .before .before .before .before .before .before .before .put-next3 .ensures .1, c .before .before .before .before .before .before .put-next4 .ensures .1, c .before .before .put-byte .ensures .place))
+returns c =
+    let f = c .before .before in
+    let e = f .before .before .before .before in
+    let d = e .before .before .before .before in
+    let g = d .before .before .before .before in
+    let b = g .before .before .before .before in
+    let a = b .before .before .before .before .put-number .ensures in
+    let two = filled-append _ _ _ _ _ _ _ _ (a .0) (b .put-next .ensures .0) in
+    let three = filled-append _ _ _ _ _ _ _ _ two (g .put-next2 .ensures .0) in
+    let four = filled-append _ _ _ _ _ _ _ _ three (d .put-next3 .ensures .0) in
+    let five = filled-append _ _ _ _ _ _ _ _ four (e .put-next4 .ensures .0) in (
+      filled-append _ _ _ _ _ _ _ _ five (f .put-byte .ensures),
+      omega (arith, a .1, b .put-next .ensures .1, g .put-next2 .ensures .1, d .put-next3 .ensures .1, e .put-next4 .ensures .1, f .put-byte .ensures .ends),
+    )
 
 pub put-five-spec : {M : Type 1} → statement M
 put-five-spec =

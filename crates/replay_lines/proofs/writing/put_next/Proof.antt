@@ -1,5 +1,5 @@
 -- `replay_lines::writing::put_next` meets its contract.
-use Rattle.replay_lines.specs.Writing.{put-then}
+use Rattle.lists.specs.Writes.{filled-append}
 use native.Mathlib.Omega.{arith}
 use borrow.Author.Needs.{needs}
 use Rattle.replay_lines.proofs.writing.put_next.Statement.{statement}
@@ -15,7 +15,7 @@ same-length : tie.Need-same-length
 same-length c = search needs
 
 returns : tie.Need-returns
-returns c = (put-then (c .before .before .before .before .before .before .put-byte .ensures) (c .before .before .put-number .ensures .0), omega (arith, c .before .before .before .before .before .before .put-byte .ensures .place, c .before .before .put-number .ensures .1))
+returns c = (filled-append _ _ _ _ _ _ _ _ (c .before .before .before .before .before .before .put-byte .ensures) (c .before .before .put-number .ensures .0), omega (arith, c .before .before .before .before .before .before .put-byte .ensures .ends, c .before .before .put-number .ensures .1))
 
 pub put-next-spec : {M : Type 1} → statement M
 put-next-spec = tie.close (tie.spec put-byte-requires put-number-requires same-length returns)

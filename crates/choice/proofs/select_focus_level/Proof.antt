@@ -1,0 +1,38 @@
+-- `choice::select_focus_level` meets its contract.
+use native.Mathlib.Omega.{arith}
+use borrow.Author.Needs.{needs}
+use Rattle.choice.proofs.select_focus_level.Statement.{statement}
+use Rattle.choice.proofs.select_focus_level.Tie as tie
+
+last-best-requires : tie.Need-last-best-requires
+last-best-requires c κs = c .before .before .pre .few
+
+enum-known-place : tie.Need-enum-known-place
+enum-known-place c = search needs
+
+candidate-at-requires : tie.Need-candidate-at-requires
+candidate-at-requires c κs = tt
+
+cast-t9 : tie.Need-cast-t9
+cast-t9 c = rw (c .before .candidate-at .ensures) (omega (arith, c .before .before .before .before .before .before .before .before .pre .levels (c .before .before .before .place .given .0 .0)))
+
+enum-told : tie.Need-enum-told
+enum-told c = search needs
+
+returns : tie.Need-returns
+returns c = rw (c .before .candidate-at .ensures, ← (rw (c .before .before .before .place .given .1) at (c .before .before .before .before .before .last-best .ensures)))
+
+returns-2 : tie.Need-returns-2
+returns-2 c = rw (← (rw (c .enum-told .given .1) at (c .before .before .last-best .ensures)))
+
+pub select-focus-level-spec : {M : Type 1} → statement M
+select-focus-level-spec =
+    tie.close
+    (tie.spec
+    last-best-requires
+    enum-known-place
+    candidate-at-requires
+    cast-t9
+    enum-told
+    returns
+    returns-2)

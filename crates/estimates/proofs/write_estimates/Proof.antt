@@ -1,0 +1,86 @@
+-- `estimates::write_estimates` meets its contract.
+use Rattle.lists.specs.Flat.{flat-more, flat-end}
+use Rattle.estimates.specs.Estimate.{estimateOf, nineWords}
+use Rattle.estimates.specs.Estimate.Call.{estimateInput, estimateWordsOf, estimateWords}
+use Rattle.records.specs.Candidates.{candidatesOf, candidateAt, noCandidate}
+use Rattle.lists.specs.Writes.{Filling, fill-start, fill-part, fill-end}
+use Rattle.records.specs.Tables.{tablesOf, entriesOf}
+use denote.Ref.{now}
+use lib.ListN.{length, drop}
+use Rattle.records.specs.declared.candidate.Candidate.{Candidate}
+use mathlib.Core.List.{List}
+use Prim.Native.Nat.{ℕ, _*_, _-_, _≤_}
+use borrow.Author.Needs.{needs}
+use native.Mathlib.Omega.{arith}
+use Rattle.estimates.proofs.write_estimates.Statement.{statement}
+use Rattle.estimates.proofs.write_estimates.Tie as tie
+
+abbrev Inv-loop : tie.InvT-loop
+Inv-loop tables next over candidates numbers estimates₀ n i₀ estimates i = (i ≤ length (candidatesOf candidates)) × Filling estimates₀ 0 (estimateWords (estimateInput tables next over candidates numbers)) estimates (i * 9) (estimateWordsOf (tablesOf tables) next (entriesOf over) numbers (drop i (candidatesOf candidates)))
+
+abbrev μ-loop : tie.MeasureT-loop
+μ-loop tables next over candidates numbers estimates₀ n i₀ estimates i = length (candidatesOf candidates) - i
+
+candidate-count-requires : tie.Need-candidate-count-requires Inv-loop μ-loop
+candidate-count-requires c κs = tt
+
+loop-holds : tie.Need-loop-holds Inv-loop μ-loop
+loop-holds c = (omega arith, fill-start _ _ _)
+
+candidate-at-requires : tie.Need-candidate-at-requires Inv-loop μ-loop
+candidate-at-requires c κs = tt
+
+estimate-candidate-requires : tie.Need-estimate-candidate-requires Inv-loop μ-loop
+estimate-candidate-requires c κs = rw (c .candidate-at .ensures) (c .before .before .before .before .before .before .before .before .before .pre .sound _ (omega arith))
+
+mul-put-words : tie.Need-mul-put-words Inv-loop μ-loop
+mul-put-words c = omega (arith, c .before .before .before .before .before .before .before .before .before .before .before .before .pre .fits, c .before .before .before .before .before .before .before .before .before .before .before .before .good)
+
+nine-words-requires : tie.Need-nine-words-requires Inv-loop μ-loop
+nine-words-requires c κs = tt
+
+slice-aggregate-put-words : tie.Need-slice-aggregate-put-words Inv-loop μ-loop
+slice-aggregate-put-words c = search needs
+
+put-words-requires : tie.Need-put-words-requires Inv-loop μ-loop
+put-words-requires c κs = tt
+
+add-i : tie.Need-add-i Inv-loop μ-loop
+add-i c = search needs
+
+loop-less : tie.Need-loop-less Inv-loop μ-loop
+loop-less c = search needs
+
+loop-again : tie.Need-loop-again Inv-loop μ-loop
+loop-again c = let a = c .before .before .before .before .before .before .before .before .before .before .before .before .before .before .before .before .args in let l = c .before .before .before .before .before .before .before .before .before .loop in let cs = candidatesOf (now (a .candidates)) in
+    let words : Candidate → List ℕ = λ k. nineWords (estimateOf (tablesOf (now (a .tables))) (a .next) (entriesOf (now (a .over))) (now (a .numbers)) k) in
+    let one = words (candidateAt cs (l .i)) in
+    (omega arith, fill-part _ _ _ _ _ one _ _ _ (rw (flat-more words cs (l .i) noCandidate (omega arith)) at (l .inv .1)) (record { ends = omega arith; stands = rw (c .before .before .put-words .ensures, c .before .before .before .before .before .nine-words .ensures, c .before .before .before .before .before .before .estimate-candidate .ensures, c .before .before .before .before .before .before .before .candidate-at .ensures) }))
+
+same-length : tie.Need-same-length Inv-loop μ-loop
+same-length c = search needs
+
+returns : tie.Need-returns Inv-loop μ-loop
+returns c = let a = c .before .before .before .before .before .before .before .before .args in
+    let e = flat-end (λ k. nineWords (estimateOf (tablesOf (now (a .tables))) (a .next) (entriesOf (now (a .over))) (now (a .numbers)) k)) (candidatesOf (now (a .candidates))) (c .before .loop .i) (omega arith) in
+    (c .before .before .candidate-count .ensures, fill-end _ _ _ _ _ (rw e at (c .before .loop .inv .1)) .stands)
+
+pub write-estimates-spec : {M : Type 1} → statement M
+write-estimates-spec =
+    tie.close
+    (tie.spec
+    Inv-loop
+    μ-loop
+    candidate-count-requires
+    loop-holds
+    candidate-at-requires
+    estimate-candidate-requires
+    nine-words-requires
+    mul-put-words
+    slice-aggregate-put-words
+    put-words-requires
+    add-i
+    loop-less
+    loop-again
+    same-length
+    returns)

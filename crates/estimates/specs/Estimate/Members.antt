@@ -1,0 +1,68 @@
+-- Which tables an estimate speaks of: those that a number is looked up as, and those of a level, are tables of the list. So bytes are sums over tables of the list, and sizes bound them.
+use mathlib.Core.Path.{_≡_, refl}
+use mathlib.Core.Logic.{⊎-elim}
+use mathlib.Core.Bool.{false, not}
+use mathlib.Core.List.{List, [], _∷_, flatMap, List·Memᴰ, List·Memᴰ·head, List·Memᴰ·tail, List·Memᴰ·not-nil, List·Memᴰ·append-cases, List·Memᴰ·eq-of-singleton}
+use Prim.Native.Nat.{ℕ, _-_, _*_, _^_, _≤_}
+use native.Mathlib.Omega.{arith}
+use lib.ListN.{length, take}
+use lib.Dec.{eqb, ltb}
+use borrow.Author.Tests.{ltb-false}
+use Rattle.lists.specs.Tests.{neither}
+use Rattle.lists.specs.Any.{anyOf, any-no}
+use Rattle.lists.specs.Filter.{filter-in}
+use Rattle.records.specs.declared.tables.Table.{Table}
+use Rattle.faults.specs.Tables.{tableBroken}
+use Rattle.estimates.specs.Estimate.{lookup, matched, atLevel, offLevel, bytesOf}
+
+-- each of some tables is one of the list
+abbrev pub Among : List Table → List Table → Type 0
+Among ts some = (t : Table) → List·Memᴰ t some → List·Memᴰ t ts
+
+first-in : (xs : List Table) → Among xs (take 1 xs)
+first-in [] t m = m
+first-in (x ∷ xs) t m = List·Memᴰ·head (List·Memᴰ·eq-of-singleton m)
+
+pub lookup-among : (n : ℕ) (ts : List Table) → Among ts (lookup ts n)
+unfolding lookup
+lookup-among n ts t m = filter-in (λ u. eqb (u .number) n) ts t (first-in _ t m) .0
+
+pub matched-among : (ts : List Table) (ns : List ℕ) → Among ts (matched ts ns)
+unfolding flatMap
+matched-among ts [] t m = absurd (List·Memᴰ·not-nil m)
+matched-among ts (n ∷ ns) t m = ⊎-elim (lookup-among n ts t) (matched-among ts ns t) (List·Memᴰ·append-cases (lookup ts n) m)
+
+pub at-among : (level : ℕ) (ts : List Table) → Among ts (atLevel level ts)
+at-among level ts t m = filter-in (λ u. eqb (u .level) level) ts t m .0
+
+pub off-among : (level : ℕ) (ts : List Table) → Among ts (offLevel level ts)
+off-among level ts t m = filter-in (λ u. not (eqb (u .level) level)) ts t m .0
+
+-- ---- sums and counts over tables of the list
+
+pub record SumOver (ts : List Table) (n : ℕ) : Type 0 where
+  pub some : List Table
+  pub among : Among ts some
+  pub sum : n ≡ bytesOf some
+
+pub record CountOver (ts : List Table) (n : ℕ) : Type 0 where
+  pub some : List Table
+  pub among : Among ts some
+  pub count : n ≡ length some
+
+-- ---- sizes
+
+-- no table is above 2^40 bytes
+abbrev pub Small : List Table → Type 0
+Small ts = (t : Table) → List·Memᴰ t ts → t .size ≤ 2 ^ 40
+
+pub small-tables : (ts : List Table) → anyOf tableBroken ts ≡ false → Small ts
+small-tables ts e t m = ltb-false (2 ^ 40) (t .size) (neither (ltb (2 ^ 32 - 1) (t .level)) (ltb (2 ^ 40) (t .size)) (any-no tableBroken ts e t m) .1)
+
+pub small-found : (ts : List Table) (n : ℕ) (x : Table) → Small ts → lookup ts n ≡ x ∷ [] → x .size ≤ 2 ^ 40
+small-found ts n x s e = s x (lookup-among n ts x (rw e (List·Memᴰ·head refl)))
+
+pub bytes-le : (ts : List Table) → Small ts → bytesOf ts ≤ length ts * 2 ^ 40
+unfolding bytesOf
+bytes-le [] s = omega arith
+bytes-le (t ∷ ts) s = omega (arith, s t (List·Memᴰ·head refl), bytes-le ts (λ u m. s u (List·Memᴰ·tail m)))

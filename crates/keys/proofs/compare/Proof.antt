@@ -1,0 +1,69 @@
+-- `keys::compare` meets its contract.
+use mathlib.Core.Path.{_≡_, refl, sym, _∙_}
+use Prim.Native.Nat.{_-_, _≤_}
+use native.Mathlib.Omega.{arith}
+use lib.ListN.{length, drop}
+use denote.Ref.{now}
+use borrow.Author.Tests.{lt-ltb, le-ltb}
+use borrow.Author.Needs.{needs}
+use Rattle.keys.specs.KeySteps.{order-at, order-long, order-short, order-end}
+use Rattle.keys.specs.Keys.{orderOf}
+use Rattle.keys.proofs.compare.Statement.{statement}
+use Rattle.keys.proofs.compare.Tie as tie
+
+abbrev Inv-loop : tie.InvT-loop
+Inv-loop a b i₀ i = (i ≤ length a) × (i ≤ length b) × (orderOf a b ≡ orderOf (drop i a) (drop i b))
+
+abbrev μ-loop : tie.MeasureT-loop
+μ-loop a b i₀ i = length a - i
+
+loop-holds : tie.Need-loop-holds Inv-loop μ-loop
+loop-holds c = (omega arith, omega arith, refl)
+
+returns : tie.Need-returns Inv-loop μ-loop
+returns c = let l = c .before .before in sym (l .loop .inv .2 ∙ order-long (now (l .before .args .a)) (now (l .before .args .b)) (l .loop .i) (omega arith) (omega arith))
+
+shared-slice-read-x : tie.Need-shared-slice-read-x Inv-loop μ-loop
+shared-slice-read-x c = search needs
+
+shared-slice-read-y : tie.Need-shared-slice-read-y Inv-loop μ-loop
+shared-slice-read-y c = search needs
+
+returns-2 : tie.Need-returns-2 Inv-loop μ-loop
+returns-2 c = let l = c .before .before .before .before .before in sym (l .loop .inv .2 ∙ order-at (now (l .before .args .a)) (now (l .before .args .b)) (l .loop .i) (omega arith) (omega arith) ∙ simp (lt-ltb _ _ (c .if2 .taken)))
+
+returns-3 : tie.Need-returns-3 Inv-loop μ-loop
+returns-3 c = let l = c .before .before .before .before .before .before in sym (l .loop .inv .2 ∙ order-at (now (l .before .args .a)) (now (l .before .args .b)) (l .loop .i) (omega arith) (omega arith) ∙ simp (le-ltb _ _ (c .before .if2 .left), lt-ltb _ _ (c .if3 .taken)))
+
+add-i : tie.Need-add-i Inv-loop μ-loop
+add-i c = search needs
+
+loop-less : tie.Need-loop-less Inv-loop μ-loop
+loop-less c = search needs
+
+loop-again : tie.Need-loop-again Inv-loop μ-loop
+loop-again c = let l = c .before .before .before .before .before .before in (omega arith, omega arith, l .loop .inv .2 ∙ order-at (now (l .before .args .a)) (now (l .before .args .b)) (l .loop .i) (omega arith) (omega arith) ∙ simp (le-ltb _ _ (c .before .if2 .left), le-ltb _ _ (c .if3 .left)))
+
+returns-4 : tie.Need-returns-4 Inv-loop μ-loop
+returns-4 c = let l = c .before .before in sym (l .loop .inv .2 ∙ order-short (now (l .before .args .a)) (now (l .before .args .b)) (l .loop .i) (omega arith) (omega arith))
+
+returns-5 : tie.Need-returns-5 Inv-loop μ-loop
+returns-5 c = let l = c .before .before in sym (l .loop .inv .2 ∙ order-end (now (l .before .args .a)) (now (l .before .args .b)) (l .loop .i) (omega arith) (omega arith))
+
+pub compare-spec : {M : Type 1} → statement M
+compare-spec =
+    tie.close
+    (tie.spec
+    Inv-loop
+    μ-loop
+    loop-holds
+    returns
+    shared-slice-read-x
+    shared-slice-read-y
+    returns-2
+    returns-3
+    add-i
+    loop-less
+    loop-again
+    returns-4
+    returns-5)

@@ -1,0 +1,34 @@
+-- `keys::lesser` meets its contract.
+use borrow.Author.Needs.{needs}
+use Rattle.keys.specs.Keys.{lesserOf}
+use Rattle.keys.proofs.lesser.Statement.{statement}
+use Rattle.keys.proofs.lesser.Tie as tie
+
+compare-requires : tie.Need-compare-requires
+compare-requires c κs = tt
+
+enum-told : tie.Need-enum-told
+enum-told c = search needs
+
+enum-told-2 : tie.Need-enum-told-2
+enum-told-2 c = search needs
+
+enum-told-3 : tie.Need-enum-told-3
+enum-told-3 c = search needs
+
+returns : tie.Need-returns
+unfolding lesserOf
+returns c = rw (← (c .before .before .compare .ensures), c .enum-told .given .1)
+
+returns-2 : tie.Need-returns-2
+unfolding lesserOf
+returns-2 c = rw (← (c .before .before .compare .ensures), c .enum-told2 .given .1)
+
+returns-3 : tie.Need-returns-3
+unfolding lesserOf
+returns-3 c = rw (← (c .before .before .compare .ensures), c .enum-told3 .given .1)
+
+pub lesser-spec : {M : Type 1} → statement M
+lesser-spec =
+    tie.close
+    (tie.spec compare-requires enum-told enum-told-2 enum-told-3 returns returns-2 returns-3)

@@ -1,0 +1,65 @@
+-- `keys::part` meets its contract.
+use mathlib.Core.Path.{_≡_, sym, _∙_}
+use Prim.Native.Nat.{_+_, _-_}
+use native.Mathlib.Omega.{arith}
+use lib.ListN.{length, drop, length-drop}
+use lib.Seq.{take-all}
+use denote.Ref.{now}
+use borrow.Author.Needs.{needs}
+use Rattle.keys.specs.KeySteps.{part-none}
+use Rattle.keys.proofs.part.Statement.{statement}
+use Rattle.keys.proofs.part.Tie as tie
+
+sub-result : tie.Need-sub-result
+sub-result c = search needs
+
+part-result-start : tie.Need-part-result-start
+part-result-start c = search needs
+
+part-result-end : tie.Need-part-result-end
+part-result-end c = search needs
+
+returns : tie.Need-returns
+returns c = part-none (now (c .before .before .args .s)) (c .before .before .args .start) (c .before .before .args .len) (omega arith)
+
+part-result-start-2 : tie.Need-part-result-start-2
+part-result-start-2 c = search needs
+
+part-result-end-2 : tie.Need-part-result-end-2
+part-result-end-2 c = search needs
+
+returns-2 : tie.Need-returns-2
+returns-2 c = let a = c .before .before .before .args in let d = drop (a .start) (now (a .s)) in
+    take-all (length (now (a .s)) - a .start) d (simp length-drop (omega arith)) ∙ sym (take-all (a .len) d (simp length-drop (omega arith)))
+
+add-end : tie.Need-add-end
+add-end c = search needs
+
+sub-result-2 : tie.Need-sub-result-2
+sub-result-2 c = search needs
+
+part-result-start-3 : tie.Need-part-result-start-3
+part-result-start-3 c = search needs
+
+part-result-end-3 : tie.Need-part-result-end-3
+part-result-end-3 c = search needs
+
+returns-3 : tie.Need-returns-3
+returns-3 c = let a = c .before .before .before .args in let e : a .start + a .len - a .start ≡ a .len = omega arith in rw e
+
+pub part-spec : {M : Type 1} → statement M
+part-spec =
+    tie.close
+    (tie.spec
+    sub-result
+    part-result-start
+    part-result-end
+    returns
+    part-result-start-2
+    part-result-end-2
+    returns-2
+    add-end
+    sub-result-2
+    part-result-start-3
+    part-result-end-3
+    returns-3)

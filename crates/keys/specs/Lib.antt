@@ -1,0 +1,3 @@
+-- The order of keys.
+pub mod KeySteps
+pub mod Keys

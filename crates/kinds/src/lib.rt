@@ -1,0 +1,7 @@
+// The types that carry 01's numbers, below everyone who needs only them.
+pub mod focus;
+pub mod kind;
+pub mod mode;
+pub mod tier;
+pub mod tuning;
+pub mod vector;

@@ -1,0 +1,75 @@
+-- Whether a test holds of one of a list, and the search for that one, place by place.
+use Prim.Native.Nat.{ℕ, zero, suc, _+_, _≤_, _<_}
+use native.Mathlib.Numerals.{add-one}
+use native.Mathlib.Omega.{arith}
+use mathlib.Core.Path.{_≡_, refl, sym, _∙_}
+use mathlib.Core.Logic.{_⊎_, ⊎-elim}
+use mathlib.Core.Bool.{Bool, true, false, _||_, or-assoc, or-false}
+use mathlib.Core.List.{List, [], _∷_, List·Memᴰ, List·Memᴰ·head, List·Memᴰ·tail, List·Memᴰ·not-nil, List·Memᴰ·cases-cons}
+use lib.ListN.{length, drop, getD, drop-of-length-le}
+use lib.Seq.{drop-cons}
+use Rattle.lists.specs.Tests.{neither}
+
+unfoldable pub anyOf : {X : Type 0} → (X → Bool) → List X → Bool
+anyOf p [] = false
+anyOf p (x ∷ xs) = p x || anyOf p xs
+
+module _ {X : Type 0} where
+  -- where it holds of none, it does not hold of any one
+  pub any-no : (p : X → Bool) (xs : List X) → anyOf p xs ≡ false → (x : X) → List·Memᴰ x xs → p x ≡ false
+  unfolding anyOf
+  any-no p [] e x m = absurd (List·Memᴰ·not-nil m)
+  any-no p (y ∷ ys) e x m =
+      let h = neither (p y) (anyOf p ys) e in
+      ⊎-elim (λ k. rw k (h .0)) (any-no p ys (h .1) x) (List·Memᴰ·cases-cons m)
+
+  pub getD-in : (xs : List X) (i : ℕ) (d : X) → i < length xs → List·Memᴰ (getD xs i d) xs
+  getD-in [] i d h = absurd (omega arith)
+  getD-in (x ∷ xs) zero d h = List·Memᴰ·head refl
+  getD-in (x ∷ xs) (suc i) d h = List·Memᴰ·tail (getD-in xs i d (omega arith))
+
+  pub any-at : (p : X → Bool) (d : X) (xs : List X) (i : ℕ) → anyOf p xs ≡ false → i < length xs → p (getD xs i d) ≡ false
+  any-at p d xs i e h = any-no p xs e (getD xs i d) (getD-in xs i d h)
+
+-- the search: it holds of none before i
+pub record Seeking {X : Type 0} (p : X → Bool) (xs : List X) (i : ℕ) : Type 0 where
+  pub within : i ≤ length xs
+  pub none : anyOf p xs ≡ anyOf p (drop i xs)
+
+module _ {X : Type 0} {p : X → Bool} {xs : List X} where
+  pub seek-start : Seeking p xs 0
+  seek-start = record { within = omega arith; none = refl }
+
+  module _ {i : ℕ} (d : X) (s : Seeking p xs i) (h : i < length xs) where
+    more : anyOf p (drop i xs) ≡ p (getD xs i d) || anyOf p (drop (i + 1) xs)
+    unfolding anyOf
+    more = rw (drop-cons xs i d h, add-one)
+
+    pub seek-found : p (getD xs i d) ≡ true → true ≡ anyOf p xs
+    seek-found t = sym (s .none ∙ more ∙ rw t)
+
+    pub seek-next : p (getD xs i d) ≡ false → Seeking p xs (i + 1)
+    seek-next t = record { within = omega arith; none = s .none ∙ more ∙ rw t }
+
+  pub seek-end : {i : ℕ} → Seeking p xs i → length xs ≤ i → false ≡ anyOf p xs
+  unfolding anyOf
+  seek-end {i} s h = sym (s .none ∙ rw (drop-of-length-le xs h))
+
+-- the test of every one, with no stop: `found` is what was known at first, or that it holds of one before i
+pub record Testing {X : Type 0} (p : X → Bool) (xs : List X) (all : Bool) (i : ℕ) (found : Bool) : Type 0 where
+  pub within : i ≤ length xs
+  pub rest : all ≡ found || anyOf p (drop i xs)
+
+module _ {X : Type 0} {p : X → Bool} {xs : List X} where
+  pub test-start : {first : Bool} → Testing p xs (first || anyOf p xs) 0 first
+  test-start = record { within = omega arith; rest = refl }
+
+  module _ {all found : Bool} {i : ℕ} (t : Testing p xs all i found) where
+    pub test-next : (d : X) → i < length xs → Testing p xs all (i + 1) (found || p (getD xs i d))
+    unfolding anyOf
+    test-next d h =
+        record { within = omega arith; rest = t .rest ∙ rw (drop-cons xs i d h, add-one) (sym (or-assoc found _ _)) }
+
+    pub test-end : length xs ≤ i → found ≡ all
+    unfolding anyOf
+    test-end h = sym (t .rest ∙ rw (drop-of-length-le xs h) (or-false found))

@@ -1,0 +1,2 @@
+-- The log of decisions.
+pub mod Log

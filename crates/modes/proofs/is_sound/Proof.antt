@@ -1,0 +1,48 @@
+-- `modes::is_sound` meets its contract.
+use Rattle.modes.specs.Mode.{soundOf}
+use Rattle.modes.proofs.is_sound.Statement.{statement}
+use Rattle.modes.proofs.is_sound.Tie as tie
+
+enum-told : tie.Need-enum-told
+enum-told c = c .match .keys1
+
+only-own-streak-requires : tie.Need-only-own-streak-requires
+only-own-streak-requires c κs = tt
+
+enum-told-2 : tie.Need-enum-told-2
+enum-told-2 c = c .match .keys2
+
+only-own-streak-requires-2 : tie.Need-only-own-streak-requires-2
+only-own-streak-requires-2 c κs = tt
+
+enum-told-3 : tie.Need-enum-told-3
+enum-told-3 c = c .match .keys3
+
+only-own-streak-requires-3 : tie.Need-only-own-streak-requires-3
+only-own-streak-requires-3 c κs = tt
+
+returns : tie.Need-returns
+unfolding soundOf
+returns c = simp (c .before .enum-told .given .1, c .only-own-streak .ensures)
+
+returns-2 : tie.Need-returns-2
+unfolding soundOf
+returns-2 c = simp (c .before .enum-told2 .given .1, c .only-own-streak2 .ensures)
+
+returns-3 : tie.Need-returns-3
+unfolding soundOf
+returns-3 c = simp (c .before .enum-told3 .given .1, c .only-own-streak3 .ensures)
+
+pub is-sound-spec : {M : Type 1} → statement M
+is-sound-spec =
+    tie.close
+    (tie.spec
+    enum-told
+    only-own-streak-requires
+    enum-told-2
+    only-own-streak-requires-2
+    enum-told-3
+    only-own-streak-requires-3
+    returns
+    returns-2
+    returns-3)

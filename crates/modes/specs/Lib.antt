@@ -1,0 +1,2 @@
+-- The mode and its streaks.
+pub mod Mode

@@ -1,0 +1,30 @@
+-- `offers::ranges::batch_high` meets its contract. Of a batch's places no more than eight are held, whatever its length says.
+use mathlib.Core.Path.{_≡_, sym}
+use native.Mathlib.Omega.{arith}
+use lib.ListN.{length}
+use lib.Seq.{length-take-le}
+use borrow.Author.Needs.{needs}
+use Rattle.offers.specs.Batches.{take-held}
+use Rattle.offers.proofs.ranges.batch_high.Statement.{statement}
+use Rattle.offers.proofs.ranges.batch_high.Tie as tie
+
+smaller-requires : tie.Need-smaller-requires
+smaller-requires c κs = tt
+
+array-share-prefix-places : tie.Need-array-share-prefix-places
+array-share-prefix-places c = let z : length (c .before .before .before .before .args .b .places) ≡ 8 = search needs in omega arith
+
+slice-aggregate-high : tie.Need-slice-aggregate-high
+slice-aggregate-high c = let z : length (c .before .before .before .before .before .args .b .places) ≡ 8 = search needs in sym (length-take-le _ _ (omega arith))
+
+high-requires : tie.Need-high-requires
+high-requires c κs = tt
+
+returns : tie.Need-returns
+returns c = let b = c .before .before .before .before .before .before .args .b in let z : length (b .places) ≡ 8 = search needs in
+    rw (take-held b _ z (c .before .before .smaller .ensures)) at (c .high .ensures)
+
+pub batch-high-spec : {M : Type 1} → statement M
+batch-high-spec =
+    tie.close
+    (tie.spec smaller-requires array-share-prefix-places slice-aggregate-high high-requires returns)

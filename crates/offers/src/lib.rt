@@ -1,0 +1,7 @@
+// What an ordered level offers: ranges, batches and moves. Every function takes any places and refuses nothing.
+pub mod batches;
+pub mod moves;
+pub mod ranges;
+
+// A batch has at most so many tables, and so has a move.
+pub const MAX_ADAPTIVE_BATCH: usize = 8;

@@ -1,0 +1,13 @@
+-- `records::candidate::estimate_count` meets its contract.
+use Rattle.lists.specs.Records.{records-count}
+use Rattle.records.specs.Candidates.{estimatesOf}
+use mathlib.Core.Path.{sym}
+use Rattle.records.proofs.candidate.estimate_count.Statement.{statement}
+use Rattle.records.proofs.candidate.estimate_count.Tie as tie
+
+returns : tie.Need-returns
+unfolding estimatesOf
+returns c = sym (records-count 9 _ _)
+
+pub estimate-count-spec : {M : Type 1} → statement M
+estimate-count-spec = tie.close (tie.spec returns)

@@ -1,0 +1,42 @@
+-- Lent words as records: seven to a table, two to an over-budget entry; what is left over at the end is no record. Definitions only.
+use Prim.Native.Nat.{ℕ}
+use mathlib.Core.List.{List}
+use lib.ListN.{getD, take, drop}
+use Rattle.records.specs.Words.{recordsBy}
+use Rattle.records.specs.declared.tables.Table.{Table}
+use Rattle.records.specs.declared.tables.Entry.{Entry}
+
+-- a record by its words
+abbrev pub tableBy : (ℕ → ℕ) → Table
+tableBy f =
+    record { number = f 0; level = f 1; size = f 2; «first_start» = f 3; «first_len» = f 4; «last_start» = f 5; «last_len» = f 6 }
+
+abbrev pub entryBy : (ℕ → ℕ) → Entry
+entryBy f = record { level = f 0; budget = f 1 }
+
+unfoldable pub tablesOf : List ℕ → List Table
+tablesOf = recordsBy 7 tableBy
+
+unfoldable pub entriesOf : List ℕ → List Entry
+entriesOf = recordsBy 2 entryBy
+
+-- a record of zeros, which stands past the last
+abbrev pub noTable : Table
+noTable = tableBy (λ _. 0)
+
+abbrev pub noEntry : Entry
+noEntry = entryBy (λ _. 0)
+
+-- the record at a place, counted from 0
+abbrev pub tableAt : List Table → ℕ → Table
+tableAt ts i = getD ts i noTable
+
+abbrev pub entryAt : List Entry → ℕ → Entry
+entryAt es i = getD es i noEntry
+
+-- a table's keys, parts of the key bytes
+unfoldable pub firstKey : List ℕ → Table → List ℕ
+firstKey ks t = take (t .«first_len») (drop (t .«first_start») ks)
+
+unfoldable pub lastKey : List ℕ → Table → List ℕ
+lastKey ks t = take (t .«last_len») (drop (t .«last_start») ks)

@@ -1,0 +1,2 @@
+-- One line's fields.
+pub mod Fields

@@ -1,0 +1,3 @@
+// The text of `replay`: its lines and numbers.
+pub mod numbers;
+pub mod reader;

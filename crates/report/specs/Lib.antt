@@ -1,0 +1,3 @@
+-- The reporting counters and the snapshot.
+pub mod Counters
+pub mod Snapshot

@@ -1,0 +1,54 @@
+-- The twelve figures of a snapshot, whole milliseconds in its times. Definitions only.
+use Prim.Native.Nat.{ℕ, _-_, _/_, _^_}
+use mathlib.Core.Bool.{cond}
+use mathlib.Core.List.{[], _∷_}
+use lib.Dec.{ltb, eqb}
+use lib.Ieee.{Float, binary64, div}
+use Rattle.arith.specs.Whole.{floatOf}
+use Rattle.counts.specs.Counts.{anyLarge}
+use Rattle.refusals.specs.Refusals.{_gives_, firstFault, none, tooLarge, counterFull}
+use Rattle.state.specs.declared.GovernorState.{GovernorState}
+use Rattle.state.specs.declared.Times.{Times}
+use Rattle.report.specs.declared.snapshot.GovernorStats.{GovernorStats}
+use Rattle.report.specs.declared.snapshot.SnapshotAnswer.{SnapshotAnswer}
+use Rattle.report.specs.declared.snapshot.SnapshotAnswer.the-variants.{Stats, Refused}
+use Rattle.arith.specs.Floats.{f0}
+use Rattle.state.specs.Clock.{timeUpTo, timesOf}
+
+-- 2, 3
+unfoldable pub snapshotFault : GovernorState → ℕ → ℕ
+snapshotFault s now =
+    firstFault
+    (anyLarge (s .counters .«batch_size_sum») (s .counters .«batch_size_count») (s .counters .«predicted_actual_samples») gives tooLarge
+    ∷ ltb (2 ^ 64 - 1) (timeUpTo (s .mode) (s .times) now) gives counterFull
+    ∷ [])
+
+abbrev pub meanOf : Float → ℕ → Float
+meanOf sum count = cond (eqb count 0) f0 (div binary64 sum (floatOf count))
+
+abbrev pub statsOf : GovernorState → Times → GovernorStats
+statsOf s t =
+    record {
+      mode = s .mode;
+      pressure = s .signals .«last_pressure»;
+      «pressure_vector» = s .signals .«pressure_vector»;
+      «mode_switches» = s .counters .«mode_switches»;
+      «time_balanced_ms» = t .balanced / 1000000;
+      «time_read_protect_ms» = t .«read_protect» / 1000000;
+      «time_write_emergency_ms» = t .«write_emergency» / 1000000;
+      «avg_batch_size» = meanOf (floatOf (s .counters .«batch_size_sum»)) (s .counters .«batch_size_count»);
+      «trivial_moves_performed» = s .counters .«trivial_moves_performed»;
+      «trivial_move_bytes_avoided» = s .counters .«trivial_move_bytes_avoided»;
+      «predicted_actual_samples» = s .counters .«predicted_actual_samples»;
+      «predicted_actual_mean_abs_pct_error» = meanOf (s .counters .«predicted_actual_abs_pct_error_sum») (s .counters .«predicted_actual_samples»);
+    }
+
+-- the present mode's time is up to the reading, in the answer only
+unfoldable pub snapshotOf : GovernorState → ℕ → SnapshotAnswer
+snapshotOf s now =
+    cond (eqb (snapshotFault s now) none) (Stats (statsOf s (timesOf (s .mode) (s .times) now))) (Refused (snapshotFault s now))
+
+-- the refusal's number, 0 beside figures
+abbrev pub snapshotRefusal : SnapshotAnswer → ℕ
+snapshotRefusal (Stats t) = none
+snapshotRefusal (Refused n) = n

@@ -1,0 +1,15 @@
+-- `rows::tabled::lay_places` is safe and ends: each turn copies one place. Assumes nothing.
+use lib.ListN.{length}
+use Prim.Native.Nat.{_-_}
+use borrow.Author.Needs.{needs}
+use Rattle.rows.proofs.tabled.lay_places.Statement.{statement}
+use Rattle.rows.proofs.tabled.lay_places.Tie as tie
+
+abbrev Inv-loop : tie.InvT-loop
+Inv-loop list to₀ i₀ to i = Unit {0}
+
+abbrev μ-loop : tie.MeasureT-loop
+μ-loop list to₀ i₀ to i = length list - i
+
+pub lay-places-spec : {M : Type 1} → statement M
+lay-places-spec = tie.close (tie.spec Inv-loop μ-loop (search needs) (search needs) (search needs) (search needs) (search needs) (search needs) (search needs) (search needs) (search needs) (search needs))

@@ -1,0 +1,14 @@
+-- `rows_text::answer::line` is safe and ends: the place of the binary digit falls. Assumes nothing.
+use Prim.Native.Nat.{_<_}
+use borrow.Author.Needs.{needs}
+use Rattle.rows_text.proofs.answer.line.Statement.{statement}
+use Rattle.rows_text.proofs.answer.line.Tie as tie
+
+abbrev Inv-loop : tie.InvT-loop
+Inv-loop out₀ at shape words zeros left₀ place₀ to₀ out left place to = left < 64
+
+abbrev μ-loop : tie.MeasureT-loop
+μ-loop out₀ at shape words zeros left₀ place₀ to₀ out left place to = left
+
+pub line-spec : {M : Type 1} → statement M
+line-spec = tie.close (tie.spec Inv-loop μ-loop (search needs) (search needs) (search needs) (search needs) (search needs) (search needs) (search needs) (search needs) (search needs) (search needs) (search needs) (search needs))

@@ -1,0 +1,15 @@
+-- `rows_text::answer::numbers` is safe and ends: each turn writes one number. Assumes nothing.
+use lib.ListN.{length}
+use Prim.Native.Nat.{_-_}
+use borrow.Author.Needs.{needs}
+use Rattle.rows_text.proofs.answer.numbers.Statement.{statement}
+use Rattle.rows_text.proofs.answer.numbers.Tie as tie
+
+abbrev Inv-loop : tie.InvT-loop
+Inv-loop out₀ at list to₀ i₀ out to i = Unit {0}
+
+abbrev μ-loop : tie.MeasureT-loop
+μ-loop out₀ at list to₀ i₀ out to i = length list - i
+
+pub numbers-spec : {M : Type 1} → statement M
+numbers-spec = tie.close (tie.spec Inv-loop μ-loop (search needs) (search needs) (search needs) (search needs) (search needs) (search needs) (search needs) (search needs))

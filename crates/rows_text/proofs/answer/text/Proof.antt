@@ -1,0 +1,15 @@
+-- `rows_text::answer::text` is safe and ends: each turn writes one byte. Assumes nothing.
+use lib.ListN.{length}
+use Prim.Native.Nat.{_-_}
+use borrow.Author.Needs.{needs}
+use Rattle.rows_text.proofs.answer.text.Statement.{statement}
+use Rattle.rows_text.proofs.answer.text.Tie as tie
+
+abbrev Inv-loop : tie.InvT-loop
+Inv-loop out₀ at s to₀ i₀ out to i = Unit {0}
+
+abbrev μ-loop : tie.MeasureT-loop
+μ-loop out₀ at s to₀ i₀ out to i = length s - i
+
+pub text-spec : {M : Type 1} → statement M
+text-spec = tie.close (tie.spec Inv-loop μ-loop (search needs) (search needs) (search needs) (search needs) (search needs) (search needs) (search needs))

@@ -1,0 +1,101 @@
+// What is written: bytes into a lent buffer, which goes to standard output when it is full, but for its last byte. A space stands behind each number and list, until the next byte takes its place or follows it.
+ghost use Prim.Native.Nat.{_≤_, _<_};
+use crate::words;
+use crate::words::WORDS;
+
+pub const OUT: usize = 65536;
+
+// Writes the buffer's bytes before a place.
+pub fn flush(out: &[u8], end: usize) {
+    io::write_all(1, words::cut(out, 0, end));
+}
+
+pub fn byte(out: &mut [u8; OUT], at: usize, b: u8) -> usize
+    ensures { λ r. ⌜ r ≤ 65536 ⌝ }
+{
+    if at < OUT {
+        out[at] = b;
+        return at + 1;
+    }
+    flush(out, OUT - 1);
+    out[0] = out[OUT - 1];
+    out[1] = b;
+    2
+}
+
+// The last byte is replaced.
+fn close(out: &mut [u8; OUT], at: usize, b: u8) -> usize {
+    if 0 < at {
+        return byte(out, at - 1, b);
+    }
+    0
+}
+
+pub fn text(out: &mut [u8; OUT], at: usize, s: &[u8]) -> usize {
+    let mut to = at;
+    let mut i = 0;
+    while i < s.len() {
+        to = byte(out, to, s[i]);
+        i += 1;
+    }
+    to
+}
+
+fn number(out: &mut [u8; OUT], at: usize, n: u64) -> usize {
+    let mut digits = [0u8; 20];
+    let k = io::decimal(n, &mut digits);
+    let to = text(out, at, &digits[..k]);
+    byte(out, to, b' ')
+}
+
+fn numbers(out: &mut [u8; OUT], at: usize, list: &[u64]) -> usize {
+    let mut to = at;
+    let mut i = 0;
+    while i < list.len() {
+        to = number(out, to, list[i]);
+        i += 1;
+    }
+    to
+}
+
+fn list(out: &mut [u8; OUT], at: usize, list: &[u64]) -> usize {
+    if list.len() == 0 {
+        return text(out, at, b"[] ");
+    }
+    let from = byte(out, at, b'[');
+    let last = numbers(out, from, list);
+    let to = close(out, last, b']');
+    byte(out, to, b' ')
+}
+
+// The number (kind 0) or the list (kind 1) at a place.
+fn argument(
+    out: &mut [u8; OUT],
+    at: usize,
+    kind: u64,
+    words: &[u64; WORDS],
+    place: usize,
+) -> usize {
+    if kind == 0 {
+        return number(out, at, words::word(words, place));
+    }
+    list(out, at, words::part(words, place))
+}
+
+// A line of the words of a shape (question::shape_with), as question::arguments reads them.
+pub fn line(out: &mut [u8; OUT], at: usize, shape: u64, words: &[u64; WORDS]) -> usize {
+    let zeros = u64::leading_zeros(shape);
+    if 62 < zeros {
+        return at;
+    }
+    let mut left = 63 - zeros;
+    let mut place = 0;
+    let mut to = at;
+    while 0 < left {
+        left -= 1;
+        let kind = (shape >> left) % 2;
+        to = argument(out, to, kind, words, place);
+        place = words::after(words, place, kind);
+    }
+    close(out, to, b'\n')
+}

@@ -1,0 +1,42 @@
+-- The numbers from a place on, how many there are, and a start past the buffer's end.
+use mathlib.Core.Path.{_≡_, refl, sym, _∙_}
+use mathlib.Core.Bool.{Bool, true, false}
+use mathlib.Core.List.{List, _∷_}
+use Prim.Native.Nat.{ℕ, _+_, _≤_, _<_, min}
+use native.Mathlib.Numerals.{add-one}
+use native.Mathlib.Omega.{arith}
+use lib.Dec.{ltb}
+use borrow.Author.Tests.{ltb-true, ltb-false}
+use lib.ListN.{length, drop, getD, length-append, length-map}
+use lib.Seq.{drop-cons, sets}
+use Rattle.records.specs.declared.tables.Table.{Table}
+use Rattle.records.specs.Tables.{tableAt}
+use Rattle.lists.specs.Filter.{filterOf, filter-small}
+use Rattle.lists.specs.Writes.{Filled, sets-past}
+use Rattle.levels.specs.Levels.{meets}
+use Rattle.offers.specs.Offers.{lowOf, highOf}
+use Rattle.writers.specs.Writers.{numbersOf, mergedOf}
+
+pub numbers-more : (ts : List Table) (ps : List ℕ) (i : ℕ) → i < length ps → numbersOf ts (drop i ps) ≡ tableAt ts (getD ps i 0) .number ∷ numbersOf ts (drop (i + 1) ps)
+numbers-more ts ps i h = rw (drop-cons ps i 0 h, add-one)
+
+pub numbers-length : (ts : List Table) (ps : List ℕ) → length (numbersOf ts ps) ≡ length ps
+numbers-length ts ps = length-map ps (λ p. tableAt ts p .number)
+
+pub merged-small : (ks : List ℕ) (ts : List Table) (next ps : List ℕ) → length (mergedOf ks ts next ps) ≤ length ps + length next
+unfolding mergedOf
+merged-small ks ts next ps =
+    let met : List ℕ = filterOf (meets ks ts (lowOf ks ts ps) (highOf ks ts ps)) next in
+    omega (arith, length-append (numbersOf ts ps) (numbersOf ts met), numbers-length ts ps, numbers-length ts met, filter-small (meets ks ts (lowOf ks ts ps) (highOf ks ts ps)) next)
+
+-- past the end every place is as good as the end
+pub filled-clip : (old : List ℕ) (at from : ℕ) (ws new : List ℕ) (n : ℕ) → from ≡ min at (length old) → Filled old from ws new (from + n) → Filled old at ws new (at + n)
+filled-clip old at from ws new n e f =
+    record { ends = omega (arith, f .ends); stands = f .stands ∙ clip (ltb at (length old)) refl }
+  where
+    clip : (b : Bool) → ltb at (length old) ≡ b → sets old from ws ≡ sets old at ws
+    clip true t =
+        let k : from ≡ at = omega (arith, ltb-true at (length old) t) in
+        rw k
+    clip false t =
+        sets-past ws old from (omega (arith, ltb-false at (length old) t)) ∙ sym (sets-past ws old at (ltb-false at (length old) t))
