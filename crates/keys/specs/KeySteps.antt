@@ -1,11 +1,11 @@
--- The order of keys, one byte at a time; a part that is cut off at its end.
+-- The order of keys, one byte at a time.
 use mathlib.Core.Path.{_≡_}
 use mathlib.Core.Bool.{cond}
 use mathlib.Core.List.{List}
-use Prim.Native.Nat.{ℕ, _+_, _-_, _≤_, _<_}
+use Prim.Native.Nat.{ℕ, _+_, _≤_, _<_}
 use native.Mathlib.Numerals.{add-one}
-use lib.ListN.{length, take, drop, getD, drop-of-length-le}
-use lib.Seq.{drop-cons, drop-length, take-nil}
+use lib.ListN.{length, drop, getD, drop-of-length-le}
+use lib.Seq.{drop-cons}
 use lib.Dec.{ltb}
 use Rattle.keys.specs.declared.Order.the-variants.{Less, Equal, Greater}
 use Rattle.keys.specs.Keys.{orderOf}
@@ -26,6 +26,3 @@ module _ (a b : List ℕ) (i : ℕ) where
   pub order-end : length a ≤ i → length b ≤ i → orderOf (drop i a) (drop i b) ≡ Equal
   unfolding orderOf
   order-end h k = rw (drop-of-length-le a h, drop-of-length-le b k)
-
-pub part-none : (s : List ℕ) (start len : ℕ) → length s ≤ start → take (length s - length s) (drop (length s) s) ≡ take len (drop start s)
-part-none s start len h = simp (drop-of-length-le s h, drop-length, take-nil)

@@ -1,7 +1,7 @@
 // Keys: byte by byte, a prefix being smaller.
 ghost use mathlib.Core.Path.{_≡_};
-ghost use lib.ListN.{take, drop};
-ghost use Rattle.keys.specs.Keys.{orderOf, lesserOf, greaterOf};
+ghost use Rattle.keys.specs.Keys.{orderOf};
+ghost use Rattle.keys.specs.Parts.{IsPart, lesserPart, greaterPart};
 
 pub enum Order {
     Less,
@@ -34,30 +34,29 @@ pub fn compare(a: &[u8], b: &[u8]) -> Order
     }
 }
 
-// Of equal keys the first.
 pub fn lesser<'a>(a: &'a [u8], b: &'a [u8]) -> &'a [u8]
-    ensures { λ r. ⌜ now r ≡ lesserOf (now (a .entry)) (now (b .entry)) ⌝ }
+    ensures { λ r. ⌜ r ≡ lesserPart (a .entry) (b .entry) ⌝ }
 {
     match compare(b, a) {
         Order::Less => b,
-        Order::Equal => a,
+        Order::Equal => a, // the first
         Order::Greater => a,
     }
 }
 
 pub fn greater<'a>(a: &'a [u8], b: &'a [u8]) -> &'a [u8]
-    ensures { λ r. ⌜ now r ≡ greaterOf (now (a .entry)) (now (b .entry)) ⌝ }
+    ensures { λ r. ⌜ r ≡ greaterPart (a .entry) (b .entry) ⌝ }
 {
     match compare(a, b) {
         Order::Less => b,
-        Order::Equal => a,
+        Order::Equal => a, // here too the first
         Order::Greater => a,
     }
 }
 
 // A part of the bytes, cut off at their end.
 pub fn part<'a>(s: &'a [u8], start: u64, len: u64) -> &'a [u8]
-    ensures { λ r. ⌜ now r ≡ take len (drop start (now (s .entry))) ⌝ }
+    ensures { λ r. ⌜ IsPart (s .entry) start len r ⌝ }
 {
     let n = s.len();
     let from = start as usize;

@@ -6,4 +6,5 @@ pub mod Flat
 pub mod Records
 pub mod Sort
 pub mod Sorting
+pub mod Ordered
 pub mod Writes

@@ -1,7 +1,10 @@
 -- Lent words as records: seven to a table, two to an over-budget entry; what is left over at the end is no record. Definitions only.
 use Prim.Native.Nat.{ℕ}
+use mathlib.Core.Path.{_≡_}
 use mathlib.Core.List.{List}
 use lib.ListN.{getD, take, drop}
+use denote.Ref.{now}
+use Rattle.keys.specs.Parts.{Bytes, StartsAt}
 use Rattle.records.specs.Words.{recordsBy}
 use Rattle.records.specs.declared.tables.Table.{Table}
 use Rattle.records.specs.declared.tables.Entry.{Entry}
@@ -40,3 +43,10 @@ firstKey ks t = take (t .«first_len») (drop (t .«first_start») ks)
 
 unfoldable pub lastKey : List ℕ → Table → List ℕ
 lastKey ks t = take (t .«last_len») (drop (t .«last_start») ks)
+
+-- r is a table's key: where it stands among the key bytes, and its bytes
+abbrev pub IsFirstKey : Bytes → Table → Bytes → Type 0
+IsFirstKey ks t r = StartsAt ks (t .«first_start») r × (now r ≡ firstKey (now ks) t)
+
+abbrev pub IsLastKey : Bytes → Table → Bytes → Type 0
+IsLastKey ks t r = StartsAt ks (t .«last_start») r × (now r ≡ lastKey (now ks) t)

@@ -1,7 +1,7 @@
 // Words as records: seven to a table, two to an over-budget entry. A place is a record's number in its list, from 0.
 ghost use mathlib.Core.Path.{_≡_};
 ghost use lib.ListN.{length};
-ghost use Rattle.records.specs.Tables.{tablesOf, tableAt, entriesOf, entryAt, firstKey, lastKey};
+ghost use Rattle.records.specs.Tables.{tablesOf, tableAt, entriesOf, entryAt, IsFirstKey, IsLastKey};
 use crate::words::word;
 
 pub struct Table {
@@ -64,13 +64,13 @@ pub fn entry_at(over: &[u64], place: usize) -> Entry
 }
 
 pub fn first_key<'a>(keys: &'a [u8], t: Table) -> &'a [u8]
-    ensures { λ r. ⌜ now r ≡ firstKey (now (keys .entry)) t ⌝ }
+    ensures { λ r. ⌜ IsFirstKey (keys .entry) t r ⌝ }
 {
     keys::part(keys, t.first_start, t.first_len)
 }
 
 pub fn last_key<'a>(keys: &'a [u8], t: Table) -> &'a [u8]
-    ensures { λ r. ⌜ now r ≡ lastKey (now (keys .entry)) t ⌝ }
+    ensures { λ r. ⌜ IsLastKey (keys .entry) t r ⌝ }
 {
     keys::part(keys, t.last_start, t.last_len)
 }

@@ -1,6 +1,7 @@
 -- `keys::greater` meets its contract.
 use borrow.Author.Needs.{needs}
-use Rattle.keys.specs.Keys.{greaterOf}
+use Rattle.keys.specs.Keys.{keyLt}
+use Rattle.keys.specs.Parts.{greaterPart}
 use Rattle.keys.proofs.greater.Statement.{statement}
 use Rattle.keys.proofs.greater.Tie as tie
 
@@ -17,15 +18,15 @@ enum-told-3 : tie.Need-enum-told-3
 enum-told-3 c = search needs
 
 returns : tie.Need-returns
-unfolding greaterOf
+unfolding greaterPart keyLt
 returns c = rw (← (c .before .before .compare .ensures), c .enum-told .given .1)
 
 returns-2 : tie.Need-returns-2
-unfolding greaterOf
+unfolding greaterPart keyLt
 returns-2 c = rw (← (c .before .before .compare .ensures), c .enum-told2 .given .1)
 
 returns-3 : tie.Need-returns-3
-unfolding greaterOf
+unfolding greaterPart keyLt
 returns-3 c = rw (← (c .before .before .compare .ensures), c .enum-told3 .given .1)
 
 pub greater-spec : {M : Type 1} → statement M

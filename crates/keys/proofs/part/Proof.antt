@@ -1,12 +1,11 @@
 -- `keys::part` meets its contract.
-use mathlib.Core.Path.{_≡_, sym, _∙_}
-use Prim.Native.Nat.{_+_, _-_}
+use mathlib.Core.Path.{_≡_, refl, sym, _∙_}
+use Prim.Native.Nat.{_+_, _-_, _≤_}
 use native.Mathlib.Omega.{arith}
-use lib.ListN.{length, drop, length-drop}
-use lib.Seq.{take-all}
+use lib.ListN.{length, drop, length-drop, drop-of-length-le}
+use lib.Seq.{take-all, drop-length, take-nil}
 use denote.Ref.{now}
 use borrow.Author.Needs.{needs}
-use Rattle.keys.specs.KeySteps.{part-none}
 use Rattle.keys.proofs.part.Statement.{statement}
 use Rattle.keys.proofs.part.Tie as tie
 
@@ -20,7 +19,10 @@ part-result-end : tie.Need-part-result-end
 part-result-end c = search needs
 
 returns : tie.Need-returns
-returns c = part-none (now (c .before .before .args .s)) (c .before .before .args .start) (c .before .before .args .len) (omega arith)
+returns c =
+    let a = c .before .before .args in
+    let past : length (now (a .s)) ≤ a .start = omega arith in
+    ((refl, omega arith), simp (drop-of-length-le (now (a .s)) past, drop-length, take-nil) (sym (take-nil (a .len))))
 
 part-result-start-2 : tie.Need-part-result-start-2
 part-result-start-2 c = search needs
@@ -30,7 +32,7 @@ part-result-end-2 c = search needs
 
 returns-2 : tie.Need-returns-2
 returns-2 c = let a = c .before .before .before .args in let d = drop (a .start) (now (a .s)) in
-    take-all (length (now (a .s)) - a .start) d (simp length-drop (omega arith)) ∙ sym (take-all (a .len) d (simp length-drop (omega arith)))
+    ((refl, omega arith), take-all (length (now (a .s)) - a .start) d (simp length-drop (omega arith)) ∙ sym (take-all (a .len) d (simp length-drop (omega arith))))
 
 add-end : tie.Need-add-end
 add-end c = search needs
@@ -45,7 +47,7 @@ part-result-end-3 : tie.Need-part-result-end-3
 part-result-end-3 c = search needs
 
 returns-3 : tie.Need-returns-3
-returns-3 c = let a = c .before .before .before .args in let e : a .start + a .len - a .start ≡ a .len = omega arith in rw e
+returns-3 c = let a = c .before .before .before .args in let e : a .start + a .len - a .start ≡ a .len = omega arith in ((refl, omega arith), rw e)
 
 pub part-spec : {M : Type 1} → statement M
 part-spec =
