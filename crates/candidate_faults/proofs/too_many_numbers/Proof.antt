@@ -1,12 +1,12 @@
--- `faults::candidate::too_many_numbers` meets its contract.
+-- `candidate_faults::too_many_numbers` meets its contract.
 use Prim.Native.Nat.{_-_}
 use native.Mathlib.Omega.{arith}
 use borrow.Author.Needs.{needs}
 use Rattle.lists.specs.Any.{anyOf, Testing, test-start, test-next, test-end}
 use Rattle.records.specs.Candidates.{candidatesOf, noCandidate}
-use Rattle.faults.specs.Candidates.{tooManyNumbers}
-use Rattle.faults.proofs.candidate.too_many_numbers.Statement.{statement}
-use Rattle.faults.proofs.candidate.too_many_numbers.Tie as tie
+use Rattle.candidate_faults.specs.Candidates.{tooManyNumbers}
+use Rattle.candidate_faults.proofs.too_many_numbers.Statement.{statement}
+use Rattle.candidate_faults.proofs.too_many_numbers.Tie as tie
 
 abbrev Inv-loop : tie.InvT-loop
 Inv-loop candidates n over₀ i₀ over i = Testing tooManyNumbers (candidatesOf candidates) (anyOf tooManyNumbers (candidatesOf candidates)) i over

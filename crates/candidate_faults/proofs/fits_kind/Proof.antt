@@ -1,8 +1,8 @@
--- `faults::candidate::fits_kind` meets its contract.
+-- `candidate_faults::fits_kind` meets its contract.
 use borrow.Author.Tests.{eq-eqb, ne-eqb}
-use Rattle.faults.specs.Candidates.{fitsKind}
-use Rattle.faults.proofs.candidate.fits_kind.Statement.{statement}
-use Rattle.faults.proofs.candidate.fits_kind.Tie as tie
+use Rattle.candidate_faults.specs.Candidates.{fitsKind}
+use Rattle.candidate_faults.proofs.fits_kind.Statement.{statement}
+use Rattle.candidate_faults.proofs.fits_kind.Tie as tie
 
 returns : tie.Need-returns
 unfolding fitsKind

@@ -1,11 +1,11 @@
-// Bad candidates, estimates and pressure vectors: too many (4), broken records (5), a vector (7) or an estimate (8) out of range.
+// What makes candidates, estimates and pressure vectors bad, one fault to a function: too many (4), broken records (5), a vector (7) or an estimate (8) out of range. Nothing here is refused: each function answers for any words.
 ghost use mathlib.Core.Path.{_≡_};
 ghost use mathlib.Core.Bool.{_&&_};
 ghost use Rattle.lists.specs.Any.{anyOf};
 ghost use Rattle.records.specs.Candidates.{candidatesOf, estimatesOf};
-ghost use Rattle.faults.specs.Candidates.{tooManyCandidates, tooManyNumbers, fitsKind, numbersOut, brokenCandidates, inUnit, estimateOut};
-use crate::limits;
-use crate::tables::part_out;
+ghost use Rattle.candidate_faults.specs.Candidates.{tooManyCandidates, tooManyNumbers, fitsKind, numbersOut, brokenCandidates, inUnit, estimateOut};
+use faults::limits;
+use faults::tables::part_out;
 use records::candidate;
 use records::candidate::Candidate;
 

@@ -1,12 +1,12 @@
--- `faults::candidate::estimates_out` meets its contract.
+-- `candidate_faults::estimates_out` meets its contract.
 use Prim.Native.Nat.{_-_}
 use native.Mathlib.Omega.{arith}
 use borrow.Author.Needs.{needs}
 use Rattle.lists.specs.Any.{anyOf, Testing, test-start, test-next, test-end}
 use Rattle.records.specs.Candidates.{estimatesOf, noEstimate}
-use Rattle.faults.specs.Candidates.{estimateOut}
-use Rattle.faults.proofs.candidate.estimates_out.Statement.{statement}
-use Rattle.faults.proofs.candidate.estimates_out.Tie as tie
+use Rattle.candidate_faults.specs.Candidates.{estimateOut}
+use Rattle.candidate_faults.proofs.estimates_out.Statement.{statement}
+use Rattle.candidate_faults.proofs.estimates_out.Tie as tie
 
 abbrev Inv-loop : tie.InvT-loop
 Inv-loop estimates n out₀ i₀ out i = Testing estimateOut (estimatesOf estimates) (anyOf estimateOut (estimatesOf estimates)) i out

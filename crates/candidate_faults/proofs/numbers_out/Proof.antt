@@ -1,12 +1,12 @@
--- `faults::candidate::numbers_out` meets its contract.
+-- `candidate_faults::numbers_out` meets its contract.
 use Prim.Native.Nat.{_-_}
 use native.Mathlib.Omega.{arith}
 use borrow.Author.Needs.{needs}
 use Rattle.lists.specs.Any.{anyOf, Testing, test-start, test-next, test-end}
 use Rattle.records.specs.Candidates.{candidatesOf, noCandidate}
-use Rattle.faults.specs.Candidates.{numbersOut}
-use Rattle.faults.proofs.candidate.numbers_out.Statement.{statement}
-use Rattle.faults.proofs.candidate.numbers_out.Tie as tie
+use Rattle.candidate_faults.specs.Candidates.{numbersOut}
+use Rattle.candidate_faults.proofs.numbers_out.Statement.{statement}
+use Rattle.candidate_faults.proofs.numbers_out.Tie as tie
 
 abbrev Inv-loop : tie.InvT-loop
 Inv-loop candidates numbers n out₀ i₀ out i = Testing (numbersOut numbers) (candidatesOf candidates) (anyOf (numbersOut numbers) (candidatesOf candidates)) i out

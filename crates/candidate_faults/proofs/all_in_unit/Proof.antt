@@ -1,7 +1,7 @@
--- `faults::candidate::all_in_unit` meets its contract.
+-- `candidate_faults::all_in_unit` meets its contract.
 use borrow.Author.Needs.{needs}
-use Rattle.faults.proofs.candidate.all_in_unit.Statement.{statement}
-use Rattle.faults.proofs.candidate.all_in_unit.Tie as tie
+use Rattle.candidate_faults.proofs.all_in_unit.Statement.{statement}
+use Rattle.candidate_faults.proofs.all_in_unit.Tie as tie
 
 returns : tie.Need-returns
 returns c = rw (c .in-unit3 .ensures, c .before .in-unit2 .ensures, c .before .before .in-unit .ensures)

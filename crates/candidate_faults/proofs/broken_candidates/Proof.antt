@@ -1,12 +1,12 @@
--- `faults::candidate::broken_candidates` meets its contract.
+-- `candidate_faults::broken_candidates` meets its contract.
 use Prim.Native.Nat.{_-_}
 use native.Mathlib.Omega.{arith}
 use borrow.Author.Needs.{needs}
 use Rattle.lists.specs.Any.{Testing, test-start, test-next, test-end}
 use Rattle.records.specs.Candidates.{candidatesOf, noCandidate}
-use Rattle.faults.specs.Candidates.{candidateBroken, brokenCandidates}
-use Rattle.faults.proofs.candidate.broken_candidates.Statement.{statement}
-use Rattle.faults.proofs.candidate.broken_candidates.Tie as tie
+use Rattle.candidate_faults.specs.Candidates.{candidateBroken, brokenCandidates}
+use Rattle.candidate_faults.proofs.broken_candidates.Statement.{statement}
+use Rattle.candidate_faults.proofs.broken_candidates.Tie as tie
 
 abbrev Inv-loop : tie.InvT-loop
 Inv-loop candidates n broken₀ i₀ broken i = Testing candidateBroken (candidatesOf candidates) (brokenCandidates candidates) i broken

@@ -1,7 +1,7 @@
--- `faults::candidate::too_many_candidates` meets its contract.
+-- `candidate_faults::too_many_candidates` meets its contract.
 use borrow.Author.Needs.{needs}
-use Rattle.faults.proofs.candidate.too_many_candidates.Statement.{statement}
-use Rattle.faults.proofs.candidate.too_many_candidates.Tie as tie
+use Rattle.candidate_faults.proofs.too_many_candidates.Statement.{statement}
+use Rattle.candidate_faults.proofs.too_many_candidates.Tie as tie
 
 returns : tie.Need-returns
 returns c = rw (c .candidate-count .ensures)
