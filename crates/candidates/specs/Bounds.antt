@@ -13,8 +13,9 @@ use Rattle.lists.specs.Records.{tabulate}
 use Rattle.levels.specs.Levels.{atLevel, placesOf}
 use Rattle.levels.specs.Bounds.{byKey-small}
 use Rattle.candidates.specs.Candidates.{Offer, l0Offers, batchOf, moveOffers, levelOffers, overOffers, offersOf}
-use Rattle.offers.specs.Offers.{seedOf, movesOf}
-use Rattle.offers.specs.Moves.{moves-small}
+use Rattle.offers.specs.Offers.{seedOf}
+use Rattle.trivial_moves.specs.Moves.{movesOf}
+use Rattle.trivial_moves.specs.Laws.{moves-small}
 use Rattle.writers.specs.Steps.{numbers-length, merged-small}
 use Rattle.candidates.specs.Generate.{wordsFrom, numbersIn}
 use Rattle.candidates.specs.Writing.{Fit, start, numbers-append}

@@ -8,7 +8,8 @@ use Rattle.records.specs.declared.tables.Table.{Table}
 use Rattle.records.specs.declared.tables.Entry.{Entry}
 use Rattle.lists.specs.Records.{tabulate}
 use Rattle.levels.specs.Levels.{placesOf, byKey}
-use Rattle.offers.specs.Offers.{seedOf, movesOf}
+use Rattle.offers.specs.Offers.{seedOf}
+use Rattle.trivial_moves.specs.Moves.{movesOf}
 use Rattle.writers.specs.Writers.{numbersOf, mergedOf}
 
 -- a candidate with the numbers of its tables

@@ -82,7 +82,7 @@ fn put_ordered(
         &mut *numbers,
         at,
     );
-    let b = offers::moves::free_moves(tables, keys, order, next);
+    let b = trivial_moves::free_moves(tables, keys, order, next);
     moves::put_moves(tables, level, b, candidates, numbers, middle)
 }
 

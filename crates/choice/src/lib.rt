@@ -55,16 +55,16 @@ pub fn pick_best_cause_aware(
 fn pick_fault(vector: PressureVector, candidates: &[u64], estimates: &[u64]) -> u64
     ensures { λ r. ⌜ r ≡ pickFault vector (now (candidates .entry)) (now (estimates .entry)) ⌝ }
 {
-    if faults::candidate::too_many_candidates(candidates) {
+    if candidate_faults::too_many_candidates(candidates) {
         return refusals::TOO_MANY;
     }
     if broken_pairs(candidates, estimates) {
         return refusals::BAD_RECORD;
     }
-    if !faults::candidate::all_in_unit(vector.l0, vector.deep_debt, vector.read) {
+    if !candidate_faults::all_in_unit(vector.l0, vector.deep_debt, vector.read) {
         return refusals::BAD_VECTOR;
     }
-    if faults::candidate::estimates_out(estimates) {
+    if candidate_faults::estimates_out(estimates) {
         return refusals::BAD_ESTIMATE;
     }
     refusals::NONE
@@ -73,7 +73,7 @@ fn pick_fault(vector: PressureVector, candidates: &[u64], estimates: &[u64]) -> 
 fn broken_pairs(candidates: &[u64], estimates: &[u64]) -> bool
     ensures { λ r. ⌜ r ≡ brokenPairs (now (candidates .entry)) (now (estimates .entry)) ⌝ }
 {
-    if faults::candidate::broken_candidates(candidates) {
+    if candidate_faults::broken_candidates(candidates) {
         return true;
     }
     if estimates.len() % 9 != 0 {

@@ -1,4 +1,3 @@
--- What makes lent words bad, and the limits.
-pub mod Candidates
+-- What makes tables and over-budget entries bad, and the limits of all lent words.
 pub mod Limits
 pub mod Tables

@@ -71,7 +71,7 @@ pub fn levels_out(over: &[u64]) -> bool
 }
 
 // Whether a part reaches past `size`. Starts and lengths go up to 2^64 - 1, so their sum is never formed.
-pub(crate) fn part_out(start: u64, len: u64, size: u64) -> bool
+pub fn part_out(start: u64, len: u64, size: u64) -> bool
     ensures { λ r. ⌜ r ≡ partOut size start len ⌝ }
 {
     if start <= size {

@@ -1,5 +1,5 @@
 -- Where batches start, place by place, and what a batch holds.
-use mathlib.Core.Path.{_≡_, refl, sym, ap, _∙_}
+use mathlib.Core.Path.{_≡_, refl, sym, ap}
 use mathlib.Core.Bool.{Bool, true, false, cond}
 use mathlib.Core.List.{List, [], _∷_}
 use Prim.Native.Nat.{ℕ, zero, suc, _+_, _≤_, min, _<_}
@@ -8,10 +8,9 @@ use native.Mathlib.Nat.{zero-min, min-zero, suc-min-suc}
 use native.Mathlib.Omega.{arith}
 use lib.Dec.{ltb}
 use lib.ListN.{length, take, drop, getD, length-take, drop-of-length-le}
-use lib.Seq.{drop-cons, sets, take-append-le}
+use lib.Seq.{drop-cons}
 use Rattle.records.specs.declared.tables.Table.{Table}
 use Rattle.records.specs.Tables.{tableAt}
-use Rattle.lists.specs.Writes.{sets-front}
 use Rattle.offers.specs.declared.batches.Batch.{Batch}
 use Rattle.offers.specs.Offers.{seedFrom, seedOf, heldIn}
 
@@ -63,8 +62,3 @@ pub take-held : (b : Batch) (n : ℕ) → length (b .places) ≡ 8 → n ≡ min
 take-held b n z e =
     let m : n ≡ min (b .len) (length (b .places)) = omega arith in
     rw m (take-min (b .len) (b .places))
-
--- the first k of what was written from the buffer's start on
-pub take-cut : (k : ℕ) (ws l new : List ℕ) → new ≡ sets l 0 ws → length ws ≤ length l → take (min k (length ws)) new ≡ take k ws
-take-cut k ws l new f h =
-    rw (f, sets-front ws l h) (take-append-le (min k (length ws)) ws (drop (length ws) l) (omega arith) ∙ take-min k ws)

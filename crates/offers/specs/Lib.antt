@@ -1,5 +1,4 @@
--- What a level offers, and the laws of its ranges, batches and moves.
+-- Ranges and batches, and their laws.
 pub mod Offers
 pub mod Ranges
 pub mod Batches
-pub mod Moves

@@ -1,17 +1,13 @@
--- What a level offers: the range of some tables, where batches start, which tables are free to move and in which order. Definitions only.
+-- The range of some tables, what a batch holds, and where batches start. Definitions only.
 use Prim.Native.Nat.{ℕ, suc}
 use mathlib.Core.Path.{_≡_}
-use mathlib.Core.Bool.{Bool, not, cond, _&&_, _||_}
+use mathlib.Core.Bool.{cond}
 use mathlib.Core.List.{List, [], _∷_}
 use lib.ListN.{length, take}
-use lib.Dec.{ltb, eqb}
+use lib.Dec.{ltb}
 use Rattle.records.specs.declared.tables.Table.{Table}
 use Rattle.records.specs.Tables.{tableAt, firstKey, lastKey}
 use Rattle.keys.specs.Keys.{lesserOf, greaterOf}
-use Rattle.lists.specs.Any.{anyOf}
-use Rattle.lists.specs.Filter.{filterOf}
-use Rattle.levels.specs.Levels.{meets}
-use Rattle.lists.specs.Sort.{sortBy}
 use Rattle.offers.specs.declared.batches.Batch.{Batch}
 
 -- ---- ranges: the smallest first key and the largest last key of the tables at some places
@@ -56,18 +52,3 @@ seedFrom ts i best at (p ∷ ps) =
 unfoldable pub seedOf : List Table → List ℕ → ℕ
 seedOf ts [] = 0
 seedOf ts (p ∷ ps) = seedFrom ts 1 (tableAt ts p .number) 0 ps
-
--- ---- moves: tables that overlap nothing below, by size falling, then number rising, at most eight
-
-unfoldable pub isFree : List ℕ → List Table → List ℕ → ℕ → Bool
-isFree ks ts next p = not (anyOf (meets ks ts (firstAt ks ts p) (lastAt ks ts p)) next)
-
-abbrev pub freeOf : List ℕ → List Table → List ℕ → List ℕ → List ℕ
-freeOf ks ts next ps = filterOf (isFree ks ts next) ps
-
-unfoldable pub moveBefore : List Table → ℕ → ℕ → Bool
-moveBefore ts a b =
-    ltb (tableAt ts b .size) (tableAt ts a .size) || (eqb (tableAt ts a .size) (tableAt ts b .size) && ltb (tableAt ts a .number) (tableAt ts b .number))
-
-unfoldable pub movesOf : List ℕ → List Table → List ℕ → List ℕ → List ℕ
-movesOf ks ts next order = take 8 (sortBy (moveBefore ts) (freeOf ks ts next order))

@@ -21,9 +21,10 @@ use Rattle.lists.specs.Sort.{insertBy, sortInto}
 use Rattle.records.specs.Tables.{tablesOf, entriesOf, firstKey, lastKey}
 use Rattle.records.specs.Candidates.{candidatesOf, estimatesOf}
 use Rattle.faults.specs.Tables.{brokenTables, brokenKeys, levelsOut}
-use Rattle.faults.specs.Candidates.{fitsKind, inUnit, estimateOut}
+use Rattle.candidate_faults.specs.Candidates.{fitsKind, inUnit, estimateOut}
 use Rattle.levels.specs.Levels.{byKey, overlaps}
-use Rattle.offers.specs.Offers.{endFrom, endOf, seedFrom, seedOf, isFree, moveBefore, movesOf}
+use Rattle.offers.specs.Offers.{endFrom, endOf, seedFrom, seedOf}
+use Rattle.trivial_moves.specs.Moves.{isFree, moveBefore, movesOf}
 use Rattle.writers.specs.Writers.{mergedOf}
 use Rattle.candidates.specs.Candidates.{l0Offers, batchOf, moveOffers, levelOffers, overOffers, offersOf}
 use Rattle.candidates.specs.Generate.{wordsFrom, numbersIn}

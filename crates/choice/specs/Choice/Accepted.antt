@@ -12,7 +12,7 @@ use Rattle.lists.specs.Any.{anyOf, any-at}
 use Rattle.kinds.specs.declared.vector.PressureVector.{PressureVector}
 use Rattle.records.specs.declared.candidate.Candidate.{Candidate}
 use Rattle.records.specs.Candidates.{candidatesOf, estimatesOf, candidateAt, noCandidate}
-use Rattle.faults.specs.Candidates.{fitsKind, candidateBroken, brokenCandidates}
+use Rattle.candidate_faults.specs.Candidates.{fitsKind, candidateBroken, brokenCandidates}
 use Rattle.choice.specs.Choice.Call.{pickChecks, pickFault}
 use Rattle.refusals.specs.Checks.{none-found}
 use Rattle.choice.specs.Choice.Search.{Pickable}

@@ -13,7 +13,7 @@ use Rattle.choice.specs.declared.Winner.{Winner}
 use Rattle.choice.specs.declared.Winner.the-variants.{None as NoWinner, At}
 use Rattle.choice.specs.declared.Picked.{Picked}
 use Rattle.records.specs.Candidates.{candidatesOf, estimatesOf}
-use Rattle.faults.specs.Candidates.{tooManyCandidates, brokenCandidates, inUnit, estimateOut}
+use Rattle.candidate_faults.specs.Candidates.{tooManyCandidates, brokenCandidates, inUnit, estimateOut}
 use Rattle.choice.specs.Choice.{choicesFrom, choiceOf}
 
 -- the records are no candidates, or the two lists are no pairs

@@ -17,7 +17,7 @@ use Rattle.kinds.specs.declared.tier.SelectionTier.the-variants.{None as NoTier
 use Rattle.choice.specs.declared.Winner.the-variants.{None as NoWinner, At}
 use Rattle.choice.specs.declared.Picked.{Picked}
 use Rattle.records.specs.Candidates.{candidatesOf, estimatesOf}
-use Rattle.faults.specs.Candidates.{inUnit, estimateOut}
+use Rattle.candidate_faults.specs.Candidates.{inUnit, estimateOut}
 use Rattle.choice.specs.Score.{scoreOf}
 use Rattle.lists.specs.Filter.{filterOf, filter-in}
 use Rattle.choice.specs.Choice.{Choice, choicesFrom, isL0Choice, noFocus, answerOf, winnerOf, focused, firstOr, choiceOf}

@@ -20,7 +20,7 @@ use Rattle.arith.specs.Logarithm.{lnOf, unitsOf}
 use Rattle.arith.specs.Logarithm.Value.{ln-value, units-lt}
 use Rattle.kinds.specs.declared.vector.PressureVector.{PressureVector}
 use Rattle.records.specs.declared.candidate.CandidateEstimate.{CandidateEstimate}
-use Rattle.faults.specs.Candidates.{inUnit}
+use Rattle.candidate_faults.specs.Candidates.{inUnit}
 use Rattle.choice.specs.Score.{ageBonusWeight, benefitOf, scoreOf}
 use Rattle.arith.specs.Floats.Range.{Small, Plain, mul-plain, mul-small, add-small, add-plain, div-plain, first-zero}
 

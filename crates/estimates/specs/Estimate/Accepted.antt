@@ -15,7 +15,7 @@ use Rattle.records.specs.Tables.{tablesOf, entriesOf}
 use Rattle.lists.specs.Writes.{sets-front}
 use Rattle.records.specs.declared.candidate.Candidate.{Candidate}
 use Rattle.records.specs.Candidates.{candidatesOf, candidateAt, noCandidate}
-use Rattle.faults.specs.Candidates.{tooManyCandidates, tooManyNumbers, numbersOut, brokenCandidates}
+use Rattle.candidate_faults.specs.Candidates.{tooManyCandidates, tooManyNumbers, numbersOut, brokenCandidates}
 use Rattle.estimates.specs.Estimate.{estimateOf, nineWords}
 use Rattle.estimates.specs.Estimate.Call.{EstimateInput, estimateWords, estimateChecks, estimateFault}
 use Rattle.lists.specs.Flat.{flat-length}

@@ -13,7 +13,7 @@ use Rattle.faults.specs.Tables.{tooManyTables, brokenTables, tooManyEntries, br
 use Rattle.records.specs.declared.candidate.Candidate.{Candidate}
 use Rattle.estimates.specs.declared.Estimated.{Estimated}
 use Rattle.records.specs.Candidates.{candidatesOf}
-use Rattle.faults.specs.Candidates.{tooManyCandidates, tooManyNumbers, brokenCandidates, numbersOut}
+use Rattle.candidate_faults.specs.Candidates.{tooManyCandidates, tooManyNumbers, brokenCandidates, numbersOut}
 use Rattle.estimates.specs.Estimate.{estimateOf, nineWords}
 
 -- what the call is given to read

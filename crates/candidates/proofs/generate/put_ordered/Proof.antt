@@ -6,12 +6,13 @@ use lib.ListN.{take, length, drop, length-drop}
 use lib.Seq.{take-all}
 use denote.Ref.{now}
 use borrow.Author.Needs.{needs}
-use Rattle.offers.specs.Offers.{seedOf, heldIn, movesOf}
+use Rattle.offers.specs.Offers.{seedOf, heldIn}
+use Rattle.trivial_moves.specs.Moves.{movesOf}
 use Rattle.candidates.specs.Candidates.{levelOffers}
 use Rattle.records.specs.Tables.{tablesOf}
 use Rattle.candidates.specs.Writing.{fit-left, fit-right, written-append}
 use Rattle.offers.specs.Batches.{seed-small}
-use Rattle.offers.specs.Moves.{moves-small}
+use Rattle.trivial_moves.specs.Laws.{moves-small}
 use Rattle.candidates.proofs.generate.put_ordered.Statement.{statement}
 use Rattle.candidates.proofs.generate.put_ordered.Tie as tie
 

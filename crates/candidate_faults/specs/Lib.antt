@@ -1,0 +1,2 @@
+-- What makes candidates and estimates bad.
+pub mod Candidates
