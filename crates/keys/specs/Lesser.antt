@@ -1,6 +1,7 @@
--- The smaller and the larger of two keys: the bytes of the part that comes back, and that none of the two is below, or above, it.
+-- The smaller and the larger of two keys: the bytes of the part that comes back; it is one of the two, and none of them is below, or above, it.
 use Prim.Native.Nat.{ℕ}
 use mathlib.Core.Path.{_≡_, refl, ap}
+use mathlib.Core.Logic.{_⊎_, inl, inr}
 use mathlib.Core.Bool.{Bool, true, false, not, cond}
 use mathlib.Core.List.{List}
 use denote.Ref.{now}
@@ -21,6 +22,10 @@ unfolding greaterPart greaterOf keyLt
 greater-bytes a b = bytes (keyLt (now a) (now b)) a b
 
 module _ (a b : List ℕ) where
+  either : (t : Bool) → (cond t b a ≡ a) ⊎ (cond t b a ≡ b)
+  either true = inr refl
+  either false = inl refl
+
   pub lesser-least : (keyLe (lesserOf a b) a ≡ true) × (keyLe (lesserOf a b) b ≡ true)
   unfolding lesserOf keyLt keyLe
   lesser-least = go (keyLt b a) refl
@@ -28,6 +33,14 @@ module _ (a b : List ℕ) where
       go : (t : Bool) → keyLt b a ≡ t → (keyLe (cond t b a) a ≡ true) × (keyLe (cond t b a) b ≡ true)
       go true e = (ap not (lt-asym b a e), le-refl b)
       go false e = (le-refl a, ap not e)
+
+  pub lesser-one : (lesserOf a b ≡ a) ⊎ (lesserOf a b ≡ b)
+  unfolding lesserOf keyLt
+  lesser-one = either (keyLt b a)
+
+  pub greater-one : (greaterOf a b ≡ a) ⊎ (greaterOf a b ≡ b)
+  unfolding greaterOf keyLt
+  greater-one = either (keyLt a b)
 
   pub greater-most : (keyLe a (greaterOf a b) ≡ true) × (keyLe b (greaterOf a b) ≡ true)
   unfolding greaterOf keyLt keyLe

@@ -2,3 +2,4 @@
 pub mod Offers
 pub mod Ranges
 pub mod Batches
+pub mod Least

@@ -1,5 +1,5 @@
 -- `offers::ranges::low_from` meets its contract. The measure is what is left of the places from i on.
-use mathlib.Core.Path.{_∙_}
+use mathlib.Core.Path.{_∙_, ap}
 use Prim.Native.Nat.{ℕ, _-_, _<_}
 use native.Mathlib.Omega.{arith}
 use lib.ListN.{length}
@@ -9,6 +9,7 @@ use borrow.Fn.PlainCycle.{Measures, is, falls, and}
 use borrow.Author.Needs.{needs}
 use Rattle.records.specs.Tables.{tablesOf}
 use Rattle.keys.specs.Keys.{lesserOf}
+use Rattle.keys.specs.Lesser.{lesser-bytes}
 use Rattle.offers.specs.Offers.{firstAt}
 use Rattle.offers.specs.Ranges.{end-more, end-last}
 use Rattle.offers.proofs.ranges.low_from.Reads as low-from
@@ -59,7 +60,7 @@ module _ (t : ℕ) where
   returns-2 : lts.Need-returns-2 (asks t) (given t) low-from.Post
   returns-2 c =
       let a = c .before .before .before .before .before .before .before .before .before .before .args in
-      end-more lesserOf (firstAt (now (a .keys)) (tablesOf (now (a .tables)))) (now (a .places)) (a .i) (now (a .best)) _ _ (c .before .before .before .before .before .if1 .left) (c .before .lesser .ensures ∙ rw (c .before .before .first-key .ensures, c .before .before .before .table-at .ensures)) (c .low-from .ensures)
+      end-more lesserOf (firstAt (now (a .keys)) (tablesOf (now (a .tables)))) (now (a .places)) (a .i) (now (a .best)) _ _ (c .before .before .before .before .before .if1 .left) (ap now (c .before .lesser .ensures) ∙ lesser-bytes _ _ ∙ rw (c .before .before .first-key .ensures .1, c .before .before .before .table-at .ensures)) (c .low-from .ensures)
 
 pub +low-from-spec : {M : Type 1} → statement M
 +low-from-spec =

@@ -13,7 +13,7 @@ part-requires : tie.Need-part-requires
 part-requires c κs = tt
 
 returns : tie.Need-returns
-returns c = c .part .ensures ∙ end-none lesserOf _ _ (c .before .if1 .taken)
+returns c = c .part .ensures .1 ∙ end-none lesserOf _ _ (c .before .if1 .taken)
 
 shared-slice-read-table-at : tie.Need-shared-slice-read-table-at
 shared-slice-read-table-at c = search needs
@@ -29,7 +29,7 @@ low-from-requires c κs = tt
 
 returns-2 : tie.Need-returns-2
 returns-2 c = let a = c .before .before .before .before .before .before .before .before .args in
-    end-some lesserOf (firstAt (now (a .keys)) (tablesOf (now (a .tables)))) (now (a .places)) _ _ (c .before .before .before .before .if1 .left) (c .before .first-key .ensures ∙ rw (c .before .before .table-at .ensures)) (c .low-from .ensures)
+    end-some lesserOf (firstAt (now (a .keys)) (tablesOf (now (a .tables)))) (now (a .places)) _ _ (c .before .before .before .before .if1 .left) (c .before .first-key .ensures .1 ∙ rw (c .before .before .table-at .ensures)) (c .low-from .ensures)
 
 pub low-spec : {M : Type 1} → statement M
 low-spec =
