@@ -57,6 +57,10 @@ tierFrom n = caseOf n Tier.None Tier.L0 Tier.FocusContinued Tier.FocusReselected
 unfoldable pub kindFrom : ℕ → ℕ → ℕ → ChosenKind
 kindFrom k l n = caseOf k Nothing L0 (LevelBatch l n) (TrivialMove l)
 
+-- the kind that three words say, and none where they say no kind
+unfoldable pub chosenFrom : ℕ → ℕ → ℕ → ChosenKind
+chosenFrom k l n = cond (chosenGood k l n) (kindFrom k l n) Nothing
+
 -- three floats, one to each pressure, from a word on
 abbrev pub floatsAt : List ℕ → ℕ → PressureVector
 floatsAt ws i =

@@ -2,7 +2,7 @@
 ghost use mathlib.Core.Path.{_≡_};
 ghost use Prim.Native.Nat.{_+_, _-_, _^_, _≤_};
 ghost use lib.ListN.{length, getD};
-ghost use Rattle.decisions.specs.Decision.{decisionWidth, decisionWords, sourceFrom, tierFrom, chosenGood, isDecision, kindFrom, floatsAt, decisionIn, readOf};
+ghost use Rattle.decisions.specs.Decision.{decisionWidth, decisionWords, sourceFrom, tierFrom, chosenGood, isDecision, kindFrom, chosenFrom, floatsAt, decisionIn, readOf};
 use kinds::kind::ChosenKind;
 use kinds::tier::SelectionTier;
 use kinds::vector::PressureSource;
@@ -107,6 +107,16 @@ fn chosen_good(kind: u64, level: u64, length: u64) -> bool
         return level <= 0xffff_ffff && length == 0;
     }
     false
+}
+
+// The chosen kind that a candidate's kind, level and batch length say; none where they say no kind.
+pub fn chosen_kind(kind: u64, level: u64, length: u64) -> ChosenKind
+    ensures { λ r. ⌜ r ≡ chosenFrom kind level length ⌝ }
+{
+    if chosen_good(kind, level, length) {
+        return kind_of(kind, level, length);
+    }
+    ChosenKind::None
 }
 
 pub fn is_decision(words: &[u64]) -> bool

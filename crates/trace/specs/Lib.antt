@@ -1,0 +1,2 @@
+-- The decision that a choice leads to.
+pub mod Trace
