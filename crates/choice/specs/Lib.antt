@@ -1,3 +1,2 @@
--- The score of an estimate, and the choice with its focus.
-pub mod Score
+-- The choice with its focus.
 pub mod Choice

@@ -2,27 +2,23 @@
 ghost use mathlib.Core.Path.{_≡_};
 ghost use Prim.Native.Nat.{_<_};
 ghost use Rattle.records.specs.Candidates.{candidatesOf, estimatesOf};
-ghost use Rattle.choice.specs.Choice.{choicesFrom, lastBest, lowerScore, bestWithin, focusMaxJobs, answerOf, winnerOf, reselected, continued, choiceOf};
+ghost use Rattle.scores.specs.Choices.{choicesFrom, lastBest, lowerScore, winnerOf};
+ghost use Rattle.scores.specs.Search.{readChoices};
+ghost use Rattle.choice.specs.Choice.{bestWithin, focusMaxJobs, answerOf, reselected, topLevel, continued, choiceOf};
 ghost use Rattle.choice.specs.Choice.Call.{brokenPairs, pickFault, pickedOf};
-ghost use Rattle.choice.specs.Choice.Search.{Few, Pickable, readChoices, topLevel};
-use crate::search::Scores;
-use crate::search::Search;
+ghost use Rattle.choice.specs.Choice.Accepted.{LevelsFit, Pickable};
 use kinds::focus::FocusLevel;
 use kinds::focus::FocusState;
 use kinds::tier::SelectionTier;
 use kinds::vector::PressureVector;
+use kinds::winner::Winner;
 use records::candidate;
-
-pub mod score;
-mod search;
+use scores::search;
+use scores::search::Scores;
+use scores::search::Search;
 
 // So many jobs in a row go to one level before the best score overall decides anew.
 const FOCUS_MAX_CONSECUTIVE_JOBS: u32 = 3;
-
-pub enum Winner {
-    None,
-    At(usize),
-}
 
 pub struct Picked {
     pub refusal: u64,
@@ -134,7 +130,7 @@ fn continue_focus(
     estimates: &[u64],
     scores: Scores,
 ) -> Picked
-    requires { ⌜ Few (now candidates) × (streak < focusMaxJobs) ⌝ }
+    requires { ⌜ LevelsFit (now candidates) × (streak < focusMaxJobs) ⌝ }
     ensures { λ r. ⌜ r ≡ continued level streak (readChoices (now (candidates .entry)) (now (estimates .entry)) scores) ⌝ }
 {
     match pick_best_within_level(level, candidates, estimates, scores) {
@@ -150,7 +146,7 @@ fn continue_focus(
 
 // The best score overall says the level.
 fn reselect(candidates: &[u64], estimates: &[u64], scores: Scores) -> Picked
-    requires { ⌜ Few (now candidates) ⌝ }
+    requires { ⌜ LevelsFit (now candidates) ⌝ }
     ensures { λ r. ⌜ r ≡ reselected (readChoices (now (candidates .entry)) (now (estimates .entry)) scores) ⌝ }
 {
     match select_focus_level(candidates, estimates, scores) {
@@ -166,7 +162,7 @@ fn reselect(candidates: &[u64], estimates: &[u64], scores: Scores) -> Picked
 
 // The level of the best score overall, the last on a tie.
 fn select_focus_level(candidates: &[u64], estimates: &[u64], scores: Scores) -> FocusLevel
-    requires { ⌜ Few (now candidates) ⌝ }
+    requires { ⌜ LevelsFit (now candidates) ⌝ }
     ensures { λ r. ⌜ r ≡ topLevel (lastBest lowerScore (readChoices (now (candidates .entry)) (now (estimates .entry)) scores)) ⌝ }
 {
     match search::last_best(Search::All, candidates, estimates, scores) {
@@ -185,7 +181,6 @@ fn pick_best_within_level(
     estimates: &[u64],
     scores: Scores,
 ) -> Winner
-    requires { ⌜ Few (now candidates) ⌝ }
     ensures { λ r. ⌜ r ≡ winnerOf (bestWithin level (readChoices (now (candidates .entry)) (now (estimates .entry)) scores)) ⌝ }
 {
     match search::last_best(Search::OfLevel(level), candidates, estimates, scores) {

@@ -7,6 +7,8 @@ use Rattle.kinds.specs.declared.vector.PressureSource.{PressureSource}
 use Rattle.kinds.specs.declared.vector.PressureSource.the-variants as Source
 use Rattle.kinds.specs.declared.focus.FocusLevel.{FocusLevel}
 use Rattle.kinds.specs.declared.focus.FocusLevel.the-variants as Focus
+use Rattle.kinds.specs.declared.winner.Winner.{Winner}
+use Rattle.kinds.specs.declared.winner.Winner.the-variants as Winning
 use Rattle.kinds.specs.declared.tier.SelectionTier.{SelectionTier}
 use Rattle.kinds.specs.declared.tier.SelectionTier.the-variants as Tier
 use Rattle.kinds.specs.declared.kind.ChosenKind.{ChosenKind}
@@ -33,6 +35,11 @@ tierNumber Tier.FocusReselected = 3
 abbrev pub focusNumbers : FocusLevel → List ℕ
 focusNumbers Focus.None = 0 ∷ 0 ∷ []
 focusNumbers (Focus.Level l) = 1 ∷ l ∷ []
+
+-- 1 and the place, or 0 and 0
+abbrev pub winnerNumbers : Winner → List ℕ
+winnerNumbers Winning.None = 0 ∷ 0 ∷ []
+winnerNumbers (Winning.At k) = 1 ∷ k ∷ []
 
 -- the number, level and length of what was chosen; a level or length that the kind lacks is 0
 abbrev pub kindNumber : ChosenKind → ℕ

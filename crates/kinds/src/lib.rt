@@ -5,3 +5,4 @@ pub mod mode;
 pub mod tier;
 pub mod tuning;
 pub mod vector;
+pub mod winner;

@@ -11,7 +11,7 @@ use Rattle.estimates.specs.Estimate.{matched, atLevel, offLevel, bytesOf, isL0C
 use Rattle.estimates.specs.Estimate.Members.{SumOver, CountOver, matched-among, at-among, off-among}
 use Rattle.kinds.specs.declared.vector.PressureVector.{PressureVector}
 use Rattle.kinds.specs.declared.focus.FocusState.{FocusState}
-use Rattle.choice.specs.declared.Winner.the-variants.{At}
+use Rattle.kinds.specs.declared.winner.Winner.the-variants.{At}
 use Rattle.records.specs.Candidates.{candidatesOf}
 use Rattle.choice.specs.Choice.Call.{pickedOf}
 use Rattle.choice.specs.Choice.Laws.{winner-below}

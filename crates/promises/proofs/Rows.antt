@@ -29,8 +29,9 @@ use Rattle.writers.specs.Writers.{mergedOf}
 use Rattle.candidates.specs.Candidates.{l0Offers, batchOf, moveOffers, levelOffers, overOffers, offersOf}
 use Rattle.candidates.specs.Generate.{wordsFrom, numbersIn}
 use Rattle.estimates.specs.Estimate.{lookup, bytesOf, oldestFrom, oldestOf, firstShare, estimateOf}
-use Rattle.choice.specs.Score.{benefitOf, scoreOf}
-use Rattle.choice.specs.Choice.{choicesFrom, lastFrom, lastBest, yields, bestWithin, reselectedBy, focused, firstOr, choiceOf}
+use Rattle.scores.specs.Score.{benefitOf, scoreOf}
+use Rattle.scores.specs.Choices.{choicesFrom, lastFrom, lastBest}
+use Rattle.choice.specs.Choice.{yields, bestWithin, reselectedBy, focused, firstOr, choiceOf}
 use Rattle.choice.specs.Choice.Call.{pickFault, pickedOf}
 use Rattle.arith.specs.Root.{withDigit, floorRoot, nearestRoot, rootShift, rootDigits, rootOf}
 use Rattle.arith.specs.Logarithm.{tab, cut, rem, rule, topOf, unitsOf, lnOf}

@@ -8,7 +8,7 @@ use Rattle.kinds.specs.declared.mode.GovernorMode.{GovernorMode}
 use Rattle.kinds.specs.declared.mode.GovernorMode.the-variants.{Balanced, ReadProtect, WriteEmergency}
 use Rattle.pressure.specs.declared.PressureSample.{PressureSample}
 use Rattle.kinds.specs.Tuning.{source}
-use Rattle.kinds.specs.Numbers.{modeNumber, dominantNumber, focusNumbers, tierNumber}
+use Rattle.kinds.specs.Numbers.{modeNumber, dominantNumber, focusNumbers, winnerNumbers, tierNumber}
 use Rattle.state.specs.State.{freshOf}
 use Rattle.pressure.specs.Pacing.{pacingOf}
 use Rattle.kinds.specs.Vector.{dominantOf}
@@ -16,7 +16,7 @@ use Rattle.candidates.specs.Generate.{generateInput, GenerateInput, candidateWo
 use Rattle.estimates.specs.Estimate.Call.{estimateInput, EstimateInput, estimateWords}
 use Rattle.choice.specs.declared.Picked.{Picked}
 use Rattle.choice.specs.Choice.{noFocus}
-use Rattle.choice.specs.Choice.Call.{pickedOf, winnerNumbers}
+use Rattle.choice.specs.Choice.Call.{pickedOf}
 use Rattle.promises.specs.Reading.{sampled}
 use Rattle.promises.specs.Calls.{Call, modes}
 

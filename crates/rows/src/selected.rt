@@ -5,13 +5,13 @@ use crate::states::SHORT;
 use crate::states::float;
 use arith::floats;
 use choice::Picked;
-use choice::Winner;
-use choice::score;
 use estimates::Estimated;
 use kinds::tier::SelectionTier;
+use kinds::winner::Winner;
 use records::candidate::CandidateEstimate;
 use rows_text::words;
 use rows_text::words::WORDS;
+use scores::score;
 
 // The estimates go to the words from 3 up to an end.
 fn estimated(

@@ -9,8 +9,8 @@ use Rattle.records.specs.declared.candidate.Candidate.{Candidate}
 use Rattle.records.specs.declared.candidate.CandidateEstimate.{CandidateEstimate}
 use Rattle.records.specs.Candidates.{candidatesOf, estimatesOf, candidateAt, estimateAt, noCandidate, noEstimate}
 use Rattle.choice.specs.declared.Picked.{Picked}
-use Rattle.choice.specs.declared.Winner.{Winner}
-use Rattle.choice.specs.declared.Winner.the-variants.{None, At}
+use Rattle.kinds.specs.declared.winner.Winner.{Winner}
+use Rattle.kinds.specs.declared.winner.Winner.the-variants.{None, At}
 use Rattle.decisions.specs.declared.SchedulingDecision.{SchedulingDecision}
 use Rattle.decisions.specs.Decision.{chosenFrom}
 

@@ -2,10 +2,10 @@
 ghost use mathlib.Core.Path.{_≡_};
 ghost use Rattle.trace.specs.Trace.{decisionOf, decisionFor};
 use choice::Picked;
-use choice::Winner;
 use decisions::SchedulingDecision;
 use kinds::tier::SelectionTier;
 use kinds::vector::PressureVector;
+use kinds::winner::Winner;
 use records::candidate;
 use records::candidate::Candidate;
 use records::candidate::CandidateEstimate;

@@ -6,7 +6,7 @@ use Rattle.choice.proofs.continue_focus.Statement.{statement}
 use Rattle.choice.proofs.continue_focus.Tie as tie
 
 pick-best-within-level-requires : tie.Need-pick-best-within-level-requires
-pick-best-within-level-requires c κs = c .before .before .pre .0
+pick-best-within-level-requires c κs = tt
 
 enum-known-place : tie.Need-enum-known-place
 enum-known-place c = search needs

@@ -12,7 +12,7 @@ enum-known-level : tie.Need-enum-known-level
 enum-known-level c = search needs
 
 pick-best-within-level-requires : tie.Need-pick-best-within-level-requires
-pick-best-within-level-requires c κs = c .before .before .before .before .before .before .pre
+pick-best-within-level-requires c κs = tt
 
 answer-requires : tie.Need-answer-requires
 answer-requires c κs = tt

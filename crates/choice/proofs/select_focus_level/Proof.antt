@@ -5,7 +5,7 @@ use Rattle.choice.proofs.select_focus_level.Statement.{statement}
 use Rattle.choice.proofs.select_focus_level.Tie as tie
 
 last-best-requires : tie.Need-last-best-requires
-last-best-requires c κs = c .before .before .pre .few
+last-best-requires c κs = tt
 
 enum-known-place : tie.Need-enum-known-place
 enum-known-place c = search needs
@@ -14,7 +14,7 @@ candidate-at-requires : tie.Need-candidate-at-requires
 candidate-at-requires c κs = tt
 
 cast-t9 : tie.Need-cast-t9
-cast-t9 c = rw (c .before .candidate-at .ensures) (omega (arith, c .before .before .before .before .before .before .before .before .pre .levels (c .before .before .before .place .given .0 .0)))
+cast-t9 c = rw (c .before .candidate-at .ensures) (omega (arith, c .before .before .before .before .before .before .before .before .pre (c .before .before .before .place .given .0 .0)))
 
 enum-told : tie.Need-enum-told
 enum-told c = search needs

@@ -2,7 +2,7 @@
 use mathlib.Core.Path.{_≡_, refl, sym}
 use mathlib.Core.Bool.{Bool, true, false, not, _&&_, _||_, true≢false}
 use mathlib.Core.List.{List}
-use Prim.Native.Nat.{ℕ, _-_, _%_, _^_, _<_}
+use Prim.Native.Nat.{ℕ, _-_, _%_, _^_, _≤_, _<_}
 use native.Mathlib.Omega.{arith}
 use lib.ListN.{length, List·getD-eq-default}
 use lib.Dec.{lit<, leb, ltb, eqb}
@@ -15,8 +15,16 @@ use Rattle.records.specs.Candidates.{candidatesOf, estimatesOf, candidateAt, no
 use Rattle.candidate_faults.specs.Candidates.{fitsKind, candidateBroken, brokenCandidates}
 use Rattle.choice.specs.Choice.Call.{pickChecks, pickFault}
 use Rattle.refusals.specs.Checks.{none-found}
-use Rattle.choice.specs.Choice.Search.{Pickable}
 use Rattle.lists.specs.Tests.{neither, both, by-test}
+
+-- every level fits a u32
+abbrev pub LevelsFit : List ℕ → Type 0
+LevelsFit cw = (k : ℕ) → candidateAt (candidatesOf cw) k .level < 2 ^ 32
+
+pub record Pickable (cw ew : List ℕ) : Type 0 where
+  pub few : length (candidatesOf cw) ≤ maxCandidates
+  pub levels : LevelsFit cw
+  pub paired : length (candidatesOf cw) ≡ length (estimatesOf ew)
 
 -- a test that holds bounds the level
 abbrev Bounds : Candidate → Bool → Type 0
@@ -48,10 +56,7 @@ pickable v cw ew e =
     let broken = neither (brokenCandidates cw) (not (eqb (length ew % 9) 0) || not (eqb (length cs) (length es))) (z .1 .0) in
     let kinds : anyOf candidateBroken cs ≡ false = neither (not (eqb (length cw % 6) 0)) (anyOf candidateBroken cs) (broken .0) .1 in
     record {
-      few =
-          record {
-            few = ltb-false maxCandidates (length cs) (z .0);
-            levels = level-at cs kinds;
-          };
+      few = ltb-false maxCandidates (length cs) (z .0);
+      levels = level-at cs kinds;
       paired = eqb-true (length cs) (length es) (not-false (eqb (length cs) (length es)) (neither (not (eqb (length ew % 9) 0)) (not (eqb (length cs) (length es))) (broken .1) .1));
     }

@@ -1,4 +1,4 @@
--- The call `pick_best_cause_aware`: its refusals in 01's order and its answer; and 01's numbers for the tiers and the winner. Definitions only.
+-- The call `pick_best_cause_aware`: its refusals in 01's order, and its answer. Definitions only.
 use Prim.Native.Nat.{ℕ, _%_}
 use mathlib.Core.Bool.{Bool, not, cond, _&&_, _||_}
 use mathlib.Core.List.{List, [], _∷_}
@@ -9,12 +9,12 @@ use Rattle.lists.specs.Any.{anyOf}
 use Rattle.kinds.specs.declared.vector.PressureVector.{PressureVector}
 use Rattle.kinds.specs.declared.focus.FocusState.{FocusState}
 use Rattle.kinds.specs.declared.tier.SelectionTier.the-variants.{None as NoTier}
-use Rattle.choice.specs.declared.Winner.{Winner}
-use Rattle.choice.specs.declared.Winner.the-variants.{None as NoWinner, At}
+use Rattle.kinds.specs.declared.winner.Winner.the-variants.{None as NoWinner}
 use Rattle.choice.specs.declared.Picked.{Picked}
 use Rattle.records.specs.Candidates.{candidatesOf, estimatesOf}
 use Rattle.candidate_faults.specs.Candidates.{tooManyCandidates, brokenCandidates, inUnit, estimateOut}
-use Rattle.choice.specs.Choice.{choicesFrom, choiceOf}
+use Rattle.scores.specs.Choices.{choicesFrom}
+use Rattle.choice.specs.Choice.{choiceOf}
 
 -- the records are no candidates, or the two lists are no pairs
 abbrev pub brokenPairs : List ℕ → List ℕ → Bool
@@ -40,8 +40,3 @@ unfoldable pub pickedOf : PressureVector → FocusState → List ℕ → List �
 pickedOf v f cw ew =
     cond (eqb (pickFault v cw ew) none) (choiceOf f (choicesFrom v 0 (candidatesOf cw) (estimatesOf ew)))
     (record { refusal = pickFault v cw ew; winner = NoWinner; focus = f; tier = NoTier })
-
--- 1 and the place, or 0 and 0
-abbrev pub winnerNumbers : Winner → List ℕ
-winnerNumbers NoWinner = 0 ∷ 0 ∷ []
-winnerNumbers (At k) = 1 ∷ k ∷ []

@@ -7,32 +7,32 @@ use Prim.Native.Nat.{ℕ, suc, _+_, _^_, _<_}
 use native.Mathlib.Omega.{arith}
 use lib.ListN.{length}
 use lib.Dec.{ltb, eqb}
-use lib.Ieee.{Float, fin, isNan, lt}
+use lib.Ieee.{Float, fin, isNan}
 use borrow.Author.Tests.{ltb-false, eq-eqb, eqb-true, not-false}
 use Rattle.kinds.specs.declared.vector.PressureVector.{PressureVector}
 use Rattle.kinds.specs.declared.focus.FocusState.{FocusState}
 use Rattle.records.specs.declared.candidate.Candidate.{Candidate}
 use Rattle.records.specs.declared.candidate.CandidateEstimate.{CandidateEstimate}
 use Rattle.kinds.specs.declared.tier.SelectionTier.the-variants.{None as NoTier, L0}
-use Rattle.choice.specs.declared.Winner.the-variants.{None as NoWinner, At}
+use Rattle.kinds.specs.declared.winner.Winner.the-variants.{None as NoWinner, At}
 use Rattle.choice.specs.declared.Picked.{Picked}
 use Rattle.records.specs.Candidates.{candidatesOf, estimatesOf}
 use Rattle.candidate_faults.specs.Candidates.{inUnit, estimateOut}
-use Rattle.choice.specs.Score.{scoreOf}
+use Rattle.scores.specs.Score.{scoreOf}
 use Rattle.lists.specs.Filter.{filterOf, filter-in}
-use Rattle.choice.specs.Choice.{Choice, choicesFrom, isL0Choice, noFocus, answerOf, winnerOf, focused, firstOr, choiceOf}
+use Rattle.scores.specs.Choices.{Choice, choicesFrom, isL0Choice, winnerOf}
+use Rattle.choice.specs.Choice.{noFocus, answerOf, focused, firstOr, choiceOf}
 use Rattle.choice.specs.Choice.Call.{pickChecks, pickFault, pickedOf}
 use Rattle.refusals.specs.Checks.{none-found}
 use Rattle.lists.specs.Any.{any-no}
 use Rattle.lists.specs.Tests.{neither}
-use Rattle.choice.specs.Choice.Search.{firstL0}
-use Rattle.choice.specs.Choice.Search.Reading.{choiceAt, l0-is}
+use Rattle.scores.specs.Search.{firstL0}
+use Rattle.scores.specs.Search.Reading.{choiceAt, l0-is}
 use Rattle.choice.specs.Choice.Accepted.{pickable}
 use Rattle.choice.specs.Choice.Tiers.{first-at, first-none}
 use Rattle.arith.specs.Floats.Range.{Plain}
-use Rattle.choice.specs.Score.Range.{InRange, score-plain, score-fits}
-use Rattle.choice.specs.Score.TotalOrder.{totalLess, total-is-lt}
-use Rattle.choice.specs.Choice.LastBest.{Each}
+use Rattle.scores.specs.Score.Range.{InRange, score-plain}
+use Rattle.scores.specs.Choices.LastBest.{Each}
 use Rattle.choice.specs.Choice.Won.{Number, Won, WonAt, comparedBy, focused-at}
 
 -- ---- what an accepted call has
@@ -60,10 +60,6 @@ in-range v cw ew z e m =
 plain-number : (k : ℕ) (x : Float) → Plain k x → isNan x ≡ false
 unfolding isNan
 plain-number k (fin false m e) h = refl
-
--- comparing by `lt` is Rust's `total_cmp`
-pub total-order : (v : PressureVector) (a b : CandidateEstimate) → InRange v a → InRange v b → totalLess (scoreOf v a) (scoreOf v b) ≡ lt (scoreOf v a) (scoreOf v b)
-total-order v a b p q = total-is-lt 515 515 (scoreOf v a) (scoreOf v b) (score-plain v a p) (score-plain v b q) (score-fits v a) (score-fits v b)
 
 module _ (v : PressureVector) where
   numbers : (i : ℕ) (cs : List Candidate) (es : List CandidateEstimate) → ((e : CandidateEstimate) → List·Memᴰ e es → InRange v e) → Each Number (choicesFrom v i cs es)

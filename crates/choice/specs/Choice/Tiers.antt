@@ -1,17 +1,18 @@
 -- The tiers' answers, by what the search holds.
-use mathlib.Core.Path.{_≡_, refl, sym, _∙_, ap}
-use mathlib.Core.Bool.{false, true, cond}
+use mathlib.Core.Path.{_≡_, refl}
+use mathlib.Core.Bool.{false, true}
 use mathlib.Core.List.{List, [], _∷_}
 use Prim.Native.Nat.{ℕ, _+_}
 use lib.Ieee.{Float}
 use Rattle.kinds.specs.declared.focus.FocusLevel.the-variants.{None as Nothing, Level}
 use Rattle.kinds.specs.declared.tier.SelectionTier.the-variants.{None as NoTier, L0, FocusContinued, FocusReselected}
 use Rattle.choice.specs.declared.Picked.{Picked}
-use Rattle.choice.specs.declared.Winner.{Winner}
-use Rattle.choice.specs.declared.Winner.the-variants.{None as NoWinner, At}
-use Rattle.choice.specs.declared.search.Search.the-variants.{OfLevel, Batches}
-use Rattle.choice.specs.Choice.{Choice, saturated, yields, bestWithin, noFocus, focusOn, answerOf, winnerOf, reselectedBy, reselected, continuedBy, firstOr}
-use Rattle.choice.specs.Choice.Search.{readChoice, bestOf, heldIn, topLevel}
+use Rattle.kinds.specs.declared.winner.Winner.{Winner}
+use Rattle.kinds.specs.declared.winner.Winner.the-variants.{None as NoWinner, At}
+use Rattle.scores.specs.declared.search.Search.the-variants.{OfLevel, Batches}
+use Rattle.scores.specs.Choices.{Choice, saturated, winnerOf}
+use Rattle.choice.specs.Choice.{yields, bestWithin, noFocus, focusOn, answerOf, reselectedBy, reselected, topLevel, continuedBy, firstOr}
+use Rattle.scores.specs.Search.{readChoice, bestOf, heldIn}
 
 -- ---- the best of a level
 
