@@ -13,10 +13,11 @@ use Rattle.state.specs.State.{freshOf}
 use Rattle.governor.specs.Observe.{switches, acceptedOf}
 use Rattle.governor.specs.Engine.{sampleOf}
 use Rattle.report.specs.Counters.{chosenOf, moveFault, trivialMoveOf, outcomeFault, outcomeOf}
+use Rattle.report.specs.Snapshot.{snapshotOf, snapshotRefusal}
 use Rattle.promises.specs.Reading.{Observation, sampled, counted}
-use Rattle.promises.specs.Calls.{Call}
-use Rattle.promises.specs.Counts.{Action, observe, move, outcome, choose, focus, acted, afterAll, number, isSwitch, isMove, isOutcome, isBatch}
-use Rattle.promises.proofs.Answers.{Says, by-fault, newOf, by-answer}
+use Rattle.promises.specs.Calls.{Action, observe, move, outcome, choose, focus, snapshot, acted, after}
+use Rattle.promises.specs.Counts.{number, isSwitch, isMove, isOutcome, isBatch}
+use Rattle.promises.proofs.Answers.{Says, by-fault, by-same, newOf, by-answer}
 
 abbrev Tally : Counters → ℕ → ℕ → ℕ → ℕ → Type 0
 Tally c switches moves samples batches =
@@ -35,30 +36,31 @@ module _ (G : Tuning) where
     abbrev Next : Action → Bool → GovernorState → Type 0
     Next a b t = Tally (t .counters) (i + one isSwitch s a b t) (j + one isMove s a b t) (k + one isOutcome s a b t) (n + one isBatch s a b t)
 
-    accepted : (c : Call) (now : ℕ) (o : Observation) → Next (observe c) true (newOf G s now o)
+    accepted : (now : ℕ) (o : Observation) → Next (observe now o) true (newOf G s now o)
     unfolding acceptedOf
-    accepted c now (sampled x) = omega (arith, raised (switches G s x) (s .counters .«mode_switches»))
-    accepted c now (counted e a) = omega (arith, raised (switches G s (sampleOf s e a)) (s .counters .«mode_switches»))
+    accepted now (sampled x) = omega (arith, raised (switches G s x) (s .counters .«mode_switches»))
+    accepted now (counted e a) = omega (arith, raised (switches G s (sampleOf s e a)) (s .counters .«mode_switches»))
 
     next : (a : Action) → Says (Next a) (acted G s a)
     unfolding trivialMoveOf outcomeOf chosenOf
-    next (observe c) = by-answer (Next (observe c)) G s (c .now) (c .observation) (accepted c (c .now) (c .observation)) (omega arith)
+    next (observe now o) = by-answer (Next (observe now o)) G s now o (accepted now o) (omega arith)
     next (move bytes) = by-fault (Next (move bytes)) (moveFault s) s _ (omega arith) (omega arith)
     next (outcome predicted actual) = by-fault (Next (outcome predicted actual)) (outcomeFault s predicted actual) s _ (omega arith) (omega arith)
     next (choose L0) = omega arith
     next (choose (LevelBatch level length)) = omega arith
     next (choose (TrivialMove level)) = omega arith
     next (focus f) = omega arith
+    next (snapshot now) = by-same (Next (snapshot now)) (snapshotRefusal (snapshotOf s now)) s (omega arith) (omega arith)
 
   all : (s : GovernorState) (l : List Action) (i j k n : ℕ) → Tally (s .counters) i j k n
-      → Tally (afterAll G s l .counters) (i + number isSwitch G s l) (j + number isMove G s l) (k + number isOutcome G s l) (n + number isBatch G s l)
-  unfolding afterAll number
+      → Tally (after G s l .counters) (i + number isSwitch G s l) (j + number isMove G s l) (k + number isOutcome G s l) (n + number isBatch G s l)
+  unfolding after number
   all s [] i j k n h = omega arith
   all s (a ∷ l) i j k n h = omega (arith, all (acted G s a .state) l _ _ _ _ (next s i j k n h a))
 
   module _ (clock : ℕ) (l : List Action) where
     abbrev ended : Counters
-    ended = afterAll G (freshOf clock) l .counters
+    ended = after G (freshOf clock) l .counters
 
     abbrev total : (Action → GovernorMode → GovernorMode → Bool) → ℕ
     total test = number test G (freshOf clock) l

@@ -20,7 +20,7 @@ use Rattle.choice.specs.declared.Picked.{Picked}
 use Rattle.choice.specs.Choice.{noFocus}
 use Rattle.choice.specs.Choice.Call.{pickedOf, winnerNumbers}
 use Rattle.promises.specs.Reading.{sampled}
-use Rattle.promises.specs.Calls.{Call, modes, accepted}
+use Rattle.promises.specs.Calls.{Action, observe, modes, accepted}
 
 -- floats stand as their bits
 pub data Row : Type 0 where
@@ -43,8 +43,8 @@ sample count trigger ratio probes =
       «backlog_levels» = 0;
     }
 
-abbrev pub atZero : PressureSample → Call
-atZero x = record { now = 0; observation = sampled x }
+abbrev pub atZero : PressureSample → Action
+atZero x = observe 0 (sampled x)
 
 abbrev pub equal : List ℕ → List ℕ → Bool
 equal [] [] = true
