@@ -1,4 +1,4 @@
--- A call answers 0 and a new state, or a fault's number and the old one. So a refused call changes nothing.
+-- A call answers 0 and a new state, or a fault's number and the old one; a snapshot has the old one both ways. So a refused call changes nothing.
 use Prim.Native.Nat.{ℕ}
 use mathlib.Core.Path.{_≡_, refl, sym, subst}
 use mathlib.Core.Bool.{Bool, true, false, cond}
@@ -15,8 +15,7 @@ use Rattle.report.specs.declared.snapshot.SnapshotAnswer.the-variants.{Stats, R
 use Rattle.report.specs.Snapshot.{snapshotFault, statsOf, snapshotOf, snapshotRefusal}
 use Rattle.report.specs.Counters.{moveFault, trivialMoveOf, outcomeFault, outcomeOf}
 use Rattle.promises.specs.Reading.{Observation, sampled, counted}
-use Rattle.promises.specs.Calls.{answerOf}
-use Rattle.promises.specs.Counts.{Action, observe, move, outcome, choose, focus, acted}
+use Rattle.promises.specs.Calls.{Action, observe, move, outcome, choose, focus, snapshot, answerOf, acted}
 
 -- what a call says: whether it was accepted, and the state after it
 abbrev pub Says : (Bool → GovernorState → Type 0) → Observed → Type 0
@@ -24,6 +23,10 @@ Says P r = P (eqb (r .refusal) none) (r .state)
 
 pub by-fault : (P : Bool → GovernorState → Type 0) (fault : ℕ) (old new : GovernorState) → P true new → P false old → Says P (answered fault old new)
 by-fault P fault old new p q = elim (eqb fault none) as (λ b. P b (cond b new old)) [ true ↦ p | false ↦ q ]
+
+-- a call that leaves the state as it is, whatever it answers
+pub by-same : (P : Bool → GovernorState → Type 0) (fault : ℕ) (s : GovernorState) → P true s → P false s → Says P (record { refusal = fault; state = s })
+by-same P fault s p q = elim (eqb fault none) as (λ b. P b s) [ true ↦ p | false ↦ q ]
 
 -- the state after an accepted observation
 abbrev pub newOf : Tuning → GovernorState → ℕ → Observation → GovernorState
@@ -40,11 +43,12 @@ Kept s b t = (T b → ⊥) → t ≡ s
 
 kept : (G : Tuning) (s : GovernorState) (a : Action) → Says (Kept s) (acted G s a)
 unfolding trivialMoveOf outcomeOf
-kept G s (observe c) = by-answer (Kept s) G s (c .now) (c .observation) (λ n. absurd (n tt)) (λ _. refl)
+kept G s (observe now o) = by-answer (Kept s) G s now o (λ n. absurd (n tt)) (λ _. refl)
 kept G s (move bytes) = by-fault (Kept s) (moveFault s) s _ (λ n. absurd (n tt)) (λ _. refl)
 kept G s (outcome predicted actual) = by-fault (Kept s) (outcomeFault s predicted actual) s _ (λ n. absurd (n tt)) (λ _. refl)
 kept G s (choose kind) = λ n. absurd (n tt)
 kept G s (focus f) = λ n. absurd (n tt)
+kept G s (snapshot now) = λ n. refl
 
 pub refused-changes-nothing : (G : Tuning) (s : GovernorState) (a : Action) → ¬ (acted G s a .refusal ≡ none) → acted G s a .state ≡ s
 refused-changes-nothing G s a n = kept G s a (λ t. n (eqb→eq _ none t))

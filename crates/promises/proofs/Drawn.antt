@@ -1,47 +1,126 @@
--- 01 (c): an estimate's bytes are sums over tables of the list and its files so many of them, and a winner is one of the candidates.
-use mathlib.Core.Path.{_≡_, refl}
-use mathlib.Core.Bool.{Bool, true, false, cond}
-use mathlib.Core.List.{List, [], List·Memᴰ·not-nil}
-use Prim.Native.Nat.{ℕ, _<_}
-use lib.ListN.{length}
+-- 01 (c): an estimate's bytes and files are drawn from the tables that the candidate's numbers name, each once a number, and a winner is one of the candidates.
+use Prim.Native.Nat.{ℕ, _+_, _≤_, _<_}
+use native.Mathlib.Omega.{arith}
+use mathlib.Core.Path.{_≡_, refl, sym, ap, subst, _∙_}
+use mathlib.Core.Bool.{Bool, true, false, not, cond, true≢false}
+use mathlib.Core.List.{List, [], _∷_, _++_, flatMap}
+use lib.Dec.{T, eqb, eqb→eq}
+use lib.ListN.{length, take}
+use borrow.Author.Tests.{eq-eqb, ne-eqb}
+use Rattle.lists.specs.Filter.{filterOf, filter-small}
 use Rattle.records.specs.declared.tables.Table.{Table}
 use Rattle.records.specs.declared.tables.Entry.{Entry}
 use Rattle.records.specs.declared.candidate.Candidate.{Candidate}
-use Rattle.estimates.specs.Estimate.{matched, atLevel, offLevel, bytesOf, isL0Candidate, inputsOf, estimateOf}
-use Rattle.estimates.specs.Estimate.Members.{SumOver, CountOver, matched-among, at-among, off-among}
+use Rattle.estimates.specs.Estimate.{lookup, matched, atLevel, offLevel, bytesOf, isL0Candidate, inputsOf, estimateOf}
 use Rattle.kinds.specs.declared.vector.PressureVector.{PressureVector}
 use Rattle.kinds.specs.declared.focus.FocusState.{FocusState}
 use Rattle.kinds.specs.declared.winner.Winner.the-variants.{At}
 use Rattle.records.specs.Candidates.{candidatesOf}
 use Rattle.choice.specs.Choice.Call.{pickedOf}
 use Rattle.choice.specs.Choice.Laws.{winner-below}
+use Rattle.promises.specs.Drawn.{Lacks, FirstWith, Named, nothing, one, none}
 
--- what a level's excess is taken from
-pub level-drawn : (ts : List Table) (level : ℕ) → SumOver ts (bytesOf (atLevel level ts))
-level-drawn ts level = record { some = atLevel level ts; among = at-among level ts; sum = refl }
+-- ---- the tables that numbers name
 
-module _ (ts : List Table) (next : ℕ) (es : List Entry) (ns : List ℕ) (c : Candidate) where
-  abbrev found : List Table
-  found = matched ts (inputsOf ns c)
+module _ (n : ℕ) where
+  lacking : (ts : List Table) → Lacks n ts → lookup ts n ≡ []
+  unfolding lookup filterOf
+  lacking [] l = refl
+  lacking (t ∷ ts) l = rw (ne-eqb (t .number) n (l .0)) (lacking ts (l .1))
 
+  past : (before after : List Table) (t : Table) → t .number ≡ n → Lacks n before → lookup (before ++ t ∷ after) n ≡ t ∷ []
+  unfolding lookup filterOf
+  past [] after t h l = rw (eq-eqb (t .number) n h)
+  past (u ∷ before) after t h l = rw (ne-eqb (u .number) n (l .0)) (past before after t h (l .1))
+
+  finding : (ts : List Table) (t : Table) → FirstWith ts n t → lookup ts n ≡ t ∷ []
+  finding ts t f = rw (f .split) (past (f .before) (f .after) t (f .has) (f .first))
+
+  -- what a number is looked up as: nothing, or the first table with it
+  abbrev Here : List Table → List Table → Type 0
+  Here ts [] = Lacks n ts
+  Here ts (t ∷ []) = FirstWith ts n t
+  Here ts (t ∷ u ∷ more) = ⊥
+
+  further : (t : Table) (ts some : List Table) → ¬ (t .number ≡ n) → Here ts some → Here (t ∷ ts) some
+  further t ts [] other h = (other, h)
+  further t ts (u ∷ []) other h =
+      record { before = t ∷ h .before; after = h .after; split = ap (λ (l : List Table). t ∷ l) (h .split); has = h .has; first = (other, h .first) }
+  further t ts (u ∷ v ∷ more) other h = h
+
+  here : (ts : List Table) → Here ts (lookup ts n)
+  unfolding lookup filterOf
+  here [] = tt
+  here (t ∷ ts) = go (eqb (t .number) n) refl (here ts)
+    where
+      go : (b : Bool) → eqb (t .number) n ≡ b → Here ts (lookup ts n) → Here (t ∷ ts) (take 1 (cond b (t ∷ filterOf (λ u. eqb (u .number) n) ts) (filterOf (λ u. eqb (u .number) n) ts)))
+      go true e h = record { before = []; after = ts; split = refl; has = eqb→eq (t .number) n (subst T (sym e) tt); first = tt }
+      go false e h = further t ts (lookup ts n) (λ k. true≢false (sym (eq-eqb (t .number) n k) ∙ e)) h
+
+module _ (ts : List Table) where
+  joined : (n : ℕ) (ns : List ℕ) (some found : List Table) → Here n ts some → Named ts ns found → Named ts (n ∷ ns) (some ++ found)
+  joined n ns [] found h d = none h d
+  joined n ns (t ∷ []) found h d = one h d
+  joined n ns (t ∷ u ∷ more) found h d = absurd h
+
+  pub matched-listed : (ns : List ℕ) → Named ts ns (matched ts ns)
+  unfolding flatMap
+  matched-listed [] = nothing
+  matched-listed (n ∷ ns) = joined n ns (lookup ts n) (matched ts ns) (here n ts) (matched-listed ns)
+
+  pub matched-only : {ns : List ℕ} {found : List Table} → Named ts ns found → found ≡ matched ts ns
+  unfolding flatMap
+  matched-only nothing = refl
+  matched-only (one {n} {ns} {t} {found} f d) = rw (finding n ts t f) (ap (λ (l : List Table). t ∷ l) (matched-only d))
+  matched-only (none {n} {ns} {found} l d) = rw (lacking n ts l) (matched-only d)
+
+  named-few : {ns : List ℕ} {found : List Table} → Named ts ns found → length found ≤ length ns
+  named-few nothing = omega arith
+  named-few (one {n} {ns} {t} {found} f d) = omega (arith, named-few d)
+  named-few (none {n} {ns} {found} l d) = omega (arith, named-few d)
+
+-- ---- their bytes
+
+-- on a level and off it, none left out and none twice
+pub level-and-rest : (level : ℕ) (ts : List Table) → bytesOf (atLevel level ts) + bytesOf (offLevel level ts) ≡ bytesOf ts
+unfolding filterOf bytesOf
+level-and-rest level [] = omega arith
+level-and-rest level (t ∷ ts) = go (eqb (t .level) level) (level-and-rest level ts)
+  where
+    go : (b : Bool) → bytesOf (atLevel level ts) + bytesOf (offLevel level ts) ≡ bytesOf ts
+        → bytesOf (cond b (t ∷ atLevel level ts) (atLevel level ts)) + bytesOf (cond (not b) (t ∷ offLevel level ts) (offLevel level ts)) ≡ t .size + bytesOf ts
+    go true h = omega arith
+    go false h = omega arith
+
+-- ---- an estimate, by any tables that the candidate's numbers name: there are such, `matched-listed`, and no others, `matched-only`
+
+module _ (ts : List Table) (next : ℕ) (es : List Entry) (ns : List ℕ) (c : Candidate) (tables : List Table) (named : Named ts (inputsOf ns c) tables) where
   abbrev source : ℕ
   source = cond (isL0Candidate c) 0 (c .level)
 
-  pub input-drawn : SumOver ts (estimateOf ts next es ns c .«input_bytes»)
+  pub input-on-level : estimateOf ts next es ns c .«input_bytes» ≡ bytesOf (atLevel source tables)
   unfolding estimateOf
-  input-drawn = record { some = atLevel source found; among = λ t m. matched-among ts (inputsOf ns c) t (at-among source found t m); sum = refl }
+  input-on-level = rw (matched-only ts named)
 
-  pub overlap-drawn : SumOver ts (estimateOf ts next es ns c .«overlap_bytes»)
+  pub overlap-off-level : estimateOf ts next es ns c .«overlap_bytes» ≡ bytesOf (offLevel source tables)
   unfolding estimateOf
-  overlap-drawn = record { some = offLevel source found; among = λ t m. matched-among ts (inputsOf ns c) t (off-among source found t m); sum = refl }
+  overlap-off-level = rw (matched-only ts named)
 
-  pub files-drawn : CountOver ts (estimateOf ts next es ns c .«l0_files_removed»)
+  pub input-and-overlap : estimateOf ts next es ns c .«input_bytes» + estimateOf ts next es ns c .«overlap_bytes» ≡ bytesOf tables
   unfolding estimateOf
-  files-drawn = go (isL0Candidate c)
+  input-and-overlap = rw (matched-only ts named) (level-and-rest source (matched ts (inputsOf ns c)))
+
+  pub files-counted : estimateOf ts next es ns c .«l0_files_removed» ≡ cond (isL0Candidate c) (length (atLevel 0 tables)) 0
+  unfolding estimateOf
+  files-counted = rw (matched-only ts named)
+
+  -- no more files than numbers
+  pub files-few : estimateOf ts next es ns c .«l0_files_removed» ≤ length (inputsOf ns c)
+  files-few = rw files-counted (go (isL0Candidate c))
     where
-      go : (b : Bool) → CountOver ts (cond b (length (atLevel 0 found)) 0)
-      go true = record { some = atLevel 0 found; among = λ t m. matched-among ts (inputsOf ns c) t (at-among 0 found t m); count = refl }
-      go false = record { some = []; among = λ t m. absurd (List·Memᴰ·not-nil m); count = refl }
+      go : (b : Bool) → cond b (length (atLevel 0 tables)) 0 ≤ length (inputsOf ns c)
+      go true = omega (arith, filter-small (λ t. eqb (t .level) 0) tables, named-few ts named)
+      go false = omega arith
 
 pub winner-listed : (v : PressureVector) (f : FocusState) (cw ew : List ℕ) (k : ℕ) → pickedOf v f cw ew .winner ≡ At k → k < length (candidatesOf cw)
 winner-listed = winner-below

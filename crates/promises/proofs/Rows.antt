@@ -11,7 +11,7 @@ use Rattle.pressure.specs.Pressure.{blendedOf, signalsOf}
 use Rattle.modes.specs.Mode.{nextModeOf, soundOf}
 use Rattle.state.specs.Clock.{timesOf}
 use Rattle.governor.specs.Observe.{countersFull, observeFault, acceptedOf, observedOf}
-use Rattle.promises.specs.Calls.{modes}
+use Rattle.promises.specs.Calls.{modes, accepted}
 use Rattle.promises.specs.Rows.{holds, all, rows}
 use Rattle.keys.specs.Keys.{orderOf, keyLt, keyLe, lesserOf, greaterOf}
 use Rattle.lists.specs.Any.{anyOf}
@@ -27,8 +27,9 @@ use Rattle.offers.specs.Offers.{endFrom, endOf, seedFrom, seedOf}
 use Rattle.trivial_moves.specs.Moves.{isFree, moveBefore, movesOf}
 use Rattle.writers.specs.Writers.{mergedOf}
 use Rattle.candidates.specs.Candidates.{l0Offers, batchOf, moveOffers, levelOffers, overOffers, offersOf}
-use Rattle.candidates.specs.Generate.{wordsFrom, numbersIn}
+use Rattle.candidates.specs.Generate.{wordsFrom, numbersIn, inputChecks, generateFault, generatedOf}
 use Rattle.estimates.specs.Estimate.{lookup, bytesOf, oldestFrom, oldestOf, firstShare, estimateOf}
+use Rattle.estimates.specs.Estimate.Call.{estimateFault, estimatedOf}
 use Rattle.scores.specs.Score.{benefitOf, scoreOf}
 use Rattle.scores.specs.Choices.{choicesFrom, lastFrom, lastBest}
 use Rattle.choice.specs.Choice.{yields, bestWithin, reselectedBy, focused, firstOr, choiceOf}
@@ -38,5 +39,5 @@ use Rattle.arith.specs.Logarithm.{tab, cut, rem, rule, topOf, unitsOf, lnOf}
 use Rattle.arith.specs.Whole.{roundedOf}
 
 pub rows-hold : T (all rows)
-unfolding orderOf keyLt keyLe lesserOf greaterOf recordsOf tabulate tablesOf entriesOf firstKey lastKey anyOf filterOf brokenTables brokenKeys levelsOut insertBy sortInto byKey overlaps endFrom endOf mergedOf l0Offers seedFrom seedOf batchOf isFree moveBefore movesOf moveOffers levelOffers overOffers offersOf wordsFrom numbersIn lookup bytesOf oldestFrom oldestOf estimateOf candidatesOf estimatesOf fitsKind inUnit estimateOut benefitOf scoreOf choicesFrom lastFrom lastBest yields bestWithin focused firstOr choiceOf pickFault pickedOf minimumOf withDigit floorRoot nearestRoot rootShift rootDigits rootOf tab cut rem rule topOf unitsOf lnOf roundedOf toBits lt round size all holds rows modes observedOf acceptedOf observeFault countersFull timesOf soundOf nextModeOf signalsOf blendedOf dominantOf pacingOf smoothedOf fractionOf clampOf maximumOf toUnsigned isNan le div mul sub add ofInt ofBits flatMap firstShare reselectedBy
+unfolding orderOf keyLt keyLe lesserOf greaterOf recordsOf tabulate tablesOf entriesOf firstKey lastKey anyOf filterOf brokenTables brokenKeys levelsOut insertBy sortInto byKey overlaps endFrom endOf mergedOf l0Offers seedFrom seedOf batchOf isFree moveBefore movesOf moveOffers levelOffers overOffers offersOf wordsFrom numbersIn lookup bytesOf oldestFrom oldestOf estimateOf candidatesOf estimatesOf fitsKind inUnit estimateOut benefitOf scoreOf choicesFrom lastFrom lastBest yields bestWithin focused firstOr choiceOf pickFault pickedOf minimumOf withDigit floorRoot nearestRoot rootShift rootDigits rootOf tab cut rem rule topOf unitsOf lnOf roundedOf toBits lt round size all holds rows modes accepted inputChecks generateFault generatedOf estimateFault estimatedOf observedOf acceptedOf observeFault countersFull timesOf soundOf nextModeOf signalsOf blendedOf dominantOf pacingOf smoothedOf fractionOf clampOf maximumOf toUnsigned isNan le div mul sub add ofInt ofBits flatMap firstShare reselectedBy
 rows-hold = tt

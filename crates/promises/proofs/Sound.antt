@@ -1,5 +1,5 @@
 -- From a fresh governor refusal 1 never occurs: whatever was done before, each mode's own streak stays below its window and the others stay 0.
-use Prim.Native.Nat.{ℕ, _<_}
+use Prim.Native.Nat.{ℕ, _-_, _^_, _<_}
 use native.Mathlib.Omega.{arith}
 use mathlib.Core.Path.{_≡_, refl}
 use mathlib.Core.Bool.{Bool, true, false, not, _&&_}
@@ -7,7 +7,8 @@ use mathlib.Core.List.{List, [], _∷_}
 use lib.Dec.{T, ltb, eqb, lt→ltb}
 use lib.Ieee.Fits.{and-i, and-r}
 use Rattle.lists.specs.Any.{anyOf}
-use Rattle.refusals.specs.Refusals.{Check, _gives_, firstFault, badState}
+use Rattle.counts.specs.Counts.{anyLarge}
+use Rattle.refusals.specs.Refusals.{Check, _gives_, firstFault, badState, tooLarge, counterFull}
 use Rattle.refusals.specs.Checks.{never-gives}
 use Rattle.state.specs.declared.GovernorState.{GovernorState}
 use Rattle.kinds.specs.declared.mode.GovernorMode.{GovernorMode}
@@ -15,18 +16,20 @@ use Rattle.kinds.specs.declared.mode.GovernorMode.the-variants.{Balanced, ReadP
 use Rattle.state.specs.declared.Streaks.{Streaks}
 use Rattle.modes.specs.declared.NextMode.{NextMode}
 use Rattle.kinds.specs.declared.kind.CandidateKind.the-variants.{L0, LevelBatch, TrivialMove}
-use Rattle.kinds.specs.Tuning.{Tuning}
+use Rattle.kinds.specs.Tuning.{Tuning, source}
 use Rattle.state.specs.State.{freshOf}
+use Rattle.state.specs.Clock.{timeUpTo}
 use Rattle.modes.specs.Mode.{switched, soundOf}
 use Rattle.pressure.specs.Pressure.{probedOf}
 use Rattle.governor.specs.Observe.{acceptedOf, observeChecks, observeFault, observedOf}
 use Rattle.governor.specs.Engine.{sampleOf, engineChecks, engineFault, engineOf}
 use Rattle.report.specs.Counters.{chosenOf, moveChecks, moveFault, trivialMoveOf, outcomeChecks, outcomeFault, outcomeOf}
+use Rattle.report.specs.Snapshot.{snapshotFault}
 use Rattle.promises.specs.Reading.{Observation, sampled, counted, Seen, seenOf}
-use Rattle.promises.specs.Calls.{answerOf}
-use Rattle.promises.specs.Counts.{Action, observe, move, outcome, choose, focus, acted, afterAll}
+use Rattle.promises.specs.Calls.{Action, observe, move, outcome, choose, focus, snapshot, answerOf, acted, after}
+use Rattle.promises.proofs.Thresholds.{source-apart}
 use Rattle.promises.proofs.Turns.{at, grown, ends-in, window, turned, longer, by-turn}
-use Rattle.promises.proofs.Answers.{by-fault, newOf, by-answer}
+use Rattle.promises.proofs.Answers.{by-fault, newOf, by-answer, snapshot-refused}
 
 abbrev quiet : List Check → Type 0
 quiet cs = anyOf (λ c. eqb (c .number) badState && c .found) cs ≡ false
@@ -37,6 +40,13 @@ silent cs q = never-gives badState cs (λ e. omega arith) q
 -- a sound state's first check finds nothing
 first-quiet : (sound : Bool) → T sound → eqb badState badState && not sound ≡ false
 first-quiet true t = refl
+
+-- 2, 3: a snapshot's checks
+abbrev snapshotChecks : GovernorState → ℕ → List Check
+snapshotChecks s now =
+    anyLarge (s .counters .«batch_size_sum») (s .counters .«batch_size_count») (s .counters .«predicted_actual_samples») gives tooLarge
+    ∷ ltb (2 ^ 64 - 1) (timeUpTo (s .mode) (s .times) now) gives counterFull
+    ∷ []
 
 module _ (G : Tuning) (exits : 0 < G .exitEmergency) (enters : 0 < G .enterReadProtect) (leaves : 0 < G .exitReadProtect) where
   abbrev Sound : NextMode → Type 0
@@ -67,16 +77,17 @@ module _ (G : Tuning) (exits : 0 < G .exitEmergency) (enters : 0 < G .enterReadP
 
   keeps : (s : GovernorState) (a : Action) → SoundIn s → SoundIn (acted G s a .state)
   unfolding trivialMoveOf outcomeOf chosenOf
-  keeps s (observe c) h = by-answer (λ _ t. SoundIn t) G s (c .now) (c .observation) (accepted s (c .now) (c .observation) h) h
+  keeps s (observe now o) h = by-answer (λ _ t. SoundIn t) G s now o (accepted s now o h) h
   keeps s (move bytes) h = by-fault (λ _ t. SoundIn t) (moveFault s) s _ h h
   keeps s (outcome predicted actual) h = by-fault (λ _ t. SoundIn t) (outcomeFault s predicted actual) s _ h h
   keeps s (choose L0) h = h
   keeps s (choose (LevelBatch level length)) h = h
   keeps s (choose (TrivialMove level)) h = h
   keeps s (focus f) h = h
+  keeps s (snapshot now) h = h
 
-  keeps-all : (s : GovernorState) (l : List Action) → SoundIn s → SoundIn (afterAll G s l)
-  unfolding afterAll
+  keeps-all : (s : GovernorState) (l : List Action) → SoundIn s → SoundIn (after G s l)
+  unfolding after
   keeps-all s [] h = h
   keeps-all s (a ∷ l) h = keeps-all (acted G s a .state) l (keeps s a h)
 
@@ -88,13 +99,17 @@ module _ (G : Tuning) (exits : 0 < G .exitEmergency) (enters : 0 < G .enterReadP
       silent (engineChecks G s now e a) (rw (first-quiet (soundOf G (s .mode) (s .streaks)) h))
 
   answers : (s : GovernorState) (a : Action) → SoundIn s → ¬ (acted G s a .refusal ≡ badState)
-  unfolding trivialMoveOf outcomeOf anyOf
-  answers s (observe c) h = observed s (c .now) (c .observation) h
+  unfolding trivialMoveOf outcomeOf snapshotFault anyOf
+  answers s (observe now o) h = observed s now o h
   answers s (move bytes) h = silent (moveChecks s) refl
   answers s (outcome predicted actual) h = silent (outcomeChecks s predicted actual) refl
   answers s (choose kind) h = silent [] refl
   answers s (focus f) h = silent [] refl
+  answers s (snapshot now) h = rw (snapshot-refused s now) (silent (snapshotChecks s now) refl)
 
   -- whatever was done before, and whatever is done next
-  pub never-bad-state : (clock : ℕ) (l : List Action) (a : Action) → ¬ (acted G (afterAll G (freshOf clock) l) a .refusal ≡ badState)
-  never-bad-state clock l a = answers (afterAll G (freshOf clock) l) a (keeps-all (freshOf clock) l (cleared Balanced))
+  pub never-bad-state : (clock : ℕ) (l : List Action) (a : Action) → ¬ (acted G (after G (freshOf clock) l) a .refusal ≡ badState)
+  never-bad-state clock l a = answers (after G (freshOf clock) l) a (keeps-all (freshOf clock) l (cleared Balanced))
+
+pub source-never-bad-state : (clock : ℕ) (l : List Action) (a : Action) → ¬ (acted source (after source (freshOf clock) l) a .refusal ≡ badState)
+source-never-bad-state = never-bad-state source (source-apart .exits) (source-apart .enters) (source-apart .leaves)

@@ -1,39 +1,70 @@
--- A run of calls on one governor, refused ones among them, and the list of the accepted ones: those that answered 0.
+-- A run of any calls on one governor, refused ones among them, and the list of the accepted ones: those that answered 0.
 use Prim.Native.Nat.{ℕ}
 use mathlib.Core.Bool.{cond}
-use mathlib.Core.List.{List, [], _∷_}
+use mathlib.Core.List.{List, [], _∷_, flatMap}
 use lib.Dec.{eqb}
-use Rattle.state.specs.declared.GovernorState.{GovernorState}
+use Rattle.refusals.specs.Refusals.{none}
 use Rattle.kinds.specs.declared.mode.GovernorMode.{GovernorMode}
-use Rattle.state.specs.declared.Observed.{Observed}
+use Rattle.kinds.specs.declared.focus.FocusState.{FocusState}
+use Rattle.kinds.specs.declared.kind.CandidateKind.{CandidateKind}
 use Rattle.kinds.specs.Tuning.{Tuning}
+use Rattle.state.specs.declared.GovernorState.{GovernorState}
+use Rattle.state.specs.declared.Observed.{Observed}
+use Rattle.state.specs.State.{focusedOf}
 use Rattle.governor.specs.Observe.{observedOf}
 use Rattle.governor.specs.Engine.{engineOf}
+use Rattle.report.specs.Counters.{chosenOf, trivialMoveOf, outcomeOf}
+use Rattle.report.specs.Snapshot.{snapshotOf, snapshotRefusal}
 use Rattle.promises.specs.Reading.{Observation, sampled, counted}
 
--- an observation handed in at a clock reading
-pub record Call : Type 0 where
-  pub now : ℕ
-  pub observation : Observation
+-- an observation, at a clock reading; a trivial move, with the bytes that it avoided; an outcome, predicted and actual bytes;
+-- a candidate chosen; a focus set; a snapshot, at a clock reading
+pub data Action : Type 0 where
+  observe : ℕ → Observation → Action
+  move : ℕ → Action
+  outcome : ℕ → ℕ → Action
+  choose : CandidateKind → Action
+  focus : FocusState → Action
+  snapshot : ℕ → Action
 
 abbrev pub answerOf : Tuning → GovernorState → ℕ → Observation → Observed
 answerOf G s now (sampled x) = observedOf G s now x
 answerOf G s now (counted e a) = engineOf G s now e a
 
-abbrev pub answer : Tuning → GovernorState → Call → Observed
-answer G s c = answerOf G s (c .now) (c .observation)
+-- a choice and a focus refuse nothing; a snapshot leaves the state as it is, refused or not
+abbrev pub acted : Tuning → GovernorState → Action → Observed
+acted G s (observe now o) = answerOf G s now o
+acted G s (move bytes) = trivialMoveOf s bytes
+acted G s (outcome predicted actual) = outcomeOf s predicted actual
+acted G s (choose kind) = record { refusal = none; state = chosenOf s kind }
+acted G s (focus f) = record { refusal = none; state = focusedOf s f }
+acted G s (snapshot now) = record { refusal = snapshotRefusal (snapshotOf s now); state = s }
 
 -- the state after a run
-unfoldable pub after : Tuning → GovernorState → List Call → GovernorState
+unfoldable pub after : Tuning → GovernorState → List Action → GovernorState
 after G s [] = s
-after G s (c ∷ cs) = after G (answer G s c .state) cs
+after G s (a ∷ l) = after G (acted G s a .state) l
 
 -- the mode after each call
-unfoldable pub modes : Tuning → GovernorState → List Call → List GovernorMode
+unfoldable pub modes : Tuning → GovernorState → List Action → List GovernorMode
 modes G s [] = []
-modes G s (c ∷ cs) = answer G s c .state .mode ∷ modes G (answer G s c .state) cs
+modes G s (a ∷ l) = acted G s a .state .mode ∷ modes G (acted G s a .state) l
 
-unfoldable pub accepted : Tuning → GovernorState → List Call → List Observation
+unfoldable pub accepted : Tuning → GovernorState → List Action → List Action
 accepted G s [] = []
-accepted G s (c ∷ cs) =
-    cond (eqb (answer G s c .refusal) 0) (c .observation ∷ accepted G (answer G s c .state) cs) (accepted G (answer G s c .state) cs)
+accepted G s (a ∷ l) =
+    let r = acted G s a in
+    cond (eqb (r .refusal) none) (a ∷ accepted G (r .state) l) (accepted G (r .state) l)
+
+-- what a call observes: one observation, or none
+abbrev pub observed : Action → List Observation
+observed (observe now o) = o ∷ []
+observed (move bytes) = []
+observed (outcome predicted actual) = []
+observed (choose kind) = []
+observed (focus f) = []
+observed (snapshot now) = []
+
+-- the accepted observations of a run
+abbrev pub observations : Tuning → GovernorState → List Action → List Observation
+observations G s l = flatMap observed (accepted G s l)

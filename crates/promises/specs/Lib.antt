@@ -3,4 +3,5 @@ pub mod Reading
 pub mod Calls
 pub mod Same
 pub mod Counts
+pub mod Drawn
 pub mod Rows

@@ -3,7 +3,9 @@ use Prim.Native.Nat.{ℕ}
 use mathlib.Core.Bool.{Bool, true, false, _&&_}
 use mathlib.Core.List.{List, [], _∷_, _++_, map}
 use lib.Dec.{eqb}
+use lib.ListN.{length}
 use lib.Ieee.{binary64, ofBits}
+use Rattle.refusals.specs.Refusals.{none}
 use Rattle.kinds.specs.declared.mode.GovernorMode.{GovernorMode}
 use Rattle.kinds.specs.declared.mode.GovernorMode.the-variants.{Balanced, ReadProtect, WriteEmergency}
 use Rattle.pressure.specs.declared.PressureSample.{PressureSample}
@@ -12,13 +14,13 @@ use Rattle.kinds.specs.Numbers.{modeNumber, dominantNumber, focusNumbers, winne
 use Rattle.state.specs.State.{freshOf}
 use Rattle.pressure.specs.Pacing.{pacingOf}
 use Rattle.kinds.specs.Vector.{dominantOf}
-use Rattle.candidates.specs.Generate.{generateInput, GenerateInput, candidateWords, numberWords}
-use Rattle.estimates.specs.Estimate.Call.{estimateInput, EstimateInput, estimateWords}
+use Rattle.candidates.specs.Generate.{generateInput, GenerateInput, candidateWords, numberWords, generatedOf}
+use Rattle.estimates.specs.Estimate.Call.{estimateInput, EstimateInput, estimateWords, estimatedOf}
 use Rattle.choice.specs.declared.Picked.{Picked}
 use Rattle.choice.specs.Choice.{noFocus}
 use Rattle.choice.specs.Choice.Call.{pickedOf}
 use Rattle.promises.specs.Reading.{sampled}
-use Rattle.promises.specs.Calls.{Call, modes}
+use Rattle.promises.specs.Calls.{Action, observe, modes, accepted}
 
 -- floats stand as their bits
 pub data Row : Type 0 where
@@ -41,8 +43,8 @@ sample count trigger ratio probes =
       «backlog_levels» = 0;
     }
 
-abbrev pub atZero : PressureSample → Call
-atZero x = record { now = 0; observation = sampled x }
+abbrev pub atZero : PressureSample → Action
+atZero x = observe 0 (sampled x)
 
 abbrev pub equal : List ℕ → List ℕ → Bool
 equal [] [] = true
@@ -57,15 +59,20 @@ choiceNumbers p = p .refusal ∷ winnerNumbers (p .winner) ++ focusNumbers (p .f
 abbrev pub estimating : GenerateInput → ℕ → EstimateInput
 estimating q next = estimateInput (q .tables) next (q .over) (candidateWords q) (numberWords q)
 
+-- a row holds of a port that accepts: each sample of a run, and generation and estimation into buffers with no word to spare
 unfoldable pub holds : Row → Bool
 holds (pause mode pressure nanoseconds) = eqb (pacingOf mode (ofBits binary64 pressure)) nanoseconds
-holds (run samples numbers) = equal (map modeNumber (modes source (freshOf 0) (map atZero samples))) numbers
+holds (run samples numbers) =
+    eqb (length (accepted source (freshOf 0) (map atZero samples))) (length samples)
+    && equal (map modeNumber (modes source (freshOf 0) (map atZero samples))) numbers
 holds (dominant x y z number) =
     eqb (dominantNumber (dominantOf (record { l0 = ofBits binary64 x; «deep_debt» = ofBits binary64 y; read = ofBits binary64 z }))) number
 holds (choice q next x y z words numbers picked) =
-    equal (candidateWords q) words
+    eqb (generatedOf q (length words) (length numbers) .refusal) none
+    && (eqb (estimatedOf (estimating q next) (length (estimateWords (estimating q next))) .refusal) none
+    && (equal (candidateWords q) words
     && (equal (numberWords q) numbers
-    && equal (choiceNumbers (pickedOf (record { l0 = ofBits binary64 x; «deep_debt» = ofBits binary64 y; read = ofBits binary64 z }) noFocus (candidateWords q) (estimateWords (estimating q next)))) picked)
+    && equal (choiceNumbers (pickedOf (record { l0 = ofBits binary64 x; «deep_debt» = ofBits binary64 y; read = ofBits binary64 z }) noFocus (candidateWords q) (estimateWords (estimating q next)))) picked)))
 
 unfoldable pub all : List Row → Bool
 all [] = true
