@@ -3,3 +3,4 @@ pub mod Rounded
 pub mod Digits
 pub mod Aligned
 pub mod Normal
+pub mod Decided

@@ -2,3 +2,4 @@
 pub mod Lent
 pub mod Params
 pub mod Thin
+pub mod Decided

@@ -1,0 +1,2 @@
+-- Proofs beside the functions' own.
+pub mod Decided
