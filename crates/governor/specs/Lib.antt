@@ -1,3 +1,3 @@
--- What the governor does, call by call.
+-- The two observations: what refuses each, and the state after it.
 pub mod Observe
 pub mod Engine

@@ -1,4 +1,4 @@
-// Keys: byte by byte, a prefix being smaller.
+// Keys and their order, byte by byte, a prefix being smaller; and a part of the key bytes. Nothing is refused.
 ghost use mathlib.Core.Path.{_≡_};
 ghost use Rattle.keys.specs.Keys.{orderOf};
 ghost use Rattle.keys.specs.Parts.{IsPart, lesserPart, greaterPart};

@@ -2,23 +2,33 @@
 use Prim.Native.Nat.{ℕ}
 use lib.Ieee.{Float, binary64, ofBits}
 
-abbrev pub f0·45 : Float
-f0·45 = ofBits binary64 0x3fdccccccccccccd
+-- by governor.rs's names: 0.75, 3.0, 0.45, 1.5 and 3; 1.6, 3, 1.15 and 4
+abbrev pub writeEmergencyEnterL0Fraction : Float
+writeEmergencyEnterL0Fraction = ofBits binary64 0x3fe8000000000000
 
-abbrev pub f0·75 : Float
-f0·75 = ofBits binary64 0x3fe8000000000000
+abbrev pub writeEmergencyEnterDebtRatio : Float
+writeEmergencyEnterDebtRatio = ofBits binary64 0x4008000000000000
 
-abbrev pub f1·15 : Float
-f1·15 = ofBits binary64 0x3ff2666666666666
+abbrev pub writeEmergencyExitL0Fraction : Float
+writeEmergencyExitL0Fraction = ofBits binary64 0x3fdccccccccccccd
 
-abbrev pub f1·5 : Float
-f1·5 = ofBits binary64 0x3ff8000000000000
+abbrev pub writeEmergencyExitDebtRatio : Float
+writeEmergencyExitDebtRatio = ofBits binary64 0x3ff8000000000000
 
-abbrev pub f1·6 : Float
-f1·6 = ofBits binary64 0x3ff999999999999a
+abbrev pub writeEmergencyExitWindows : ℕ
+writeEmergencyExitWindows = 3
 
-abbrev pub f3 : Float
-f3 = ofBits binary64 0x4008000000000000
+abbrev pub readProtectEnterTablesProbed : Float
+readProtectEnterTablesProbed = ofBits binary64 0x3ff999999999999a
+
+abbrev pub readProtectEnterWindows : ℕ
+readProtectEnterWindows = 3
+
+abbrev pub readProtectExitTablesProbed : Float
+readProtectExitTablesProbed = ofBits binary64 0x3ff2666666666666
+
+abbrev pub readProtectExitWindows : ℕ
+readProtectExitWindows = 4
 
 -- six thresholds and three windows
 pub record Tuning : Type 0 where
@@ -35,13 +45,13 @@ pub record Tuning : Type 0 where
 abbrev pub source : Tuning
 source =
     record {
-      enterFraction = f0·75;
-      exitFraction = f0·45;
-      enterRatio = f3;
-      exitRatio = f1·5;
-      enterProbed = f1·6;
-      exitProbed = f1·15;
-      exitEmergency = 3;
-      enterReadProtect = 3;
-      exitReadProtect = 4;
+      enterFraction = writeEmergencyEnterL0Fraction;
+      exitFraction = writeEmergencyExitL0Fraction;
+      enterRatio = writeEmergencyEnterDebtRatio;
+      exitRatio = writeEmergencyExitDebtRatio;
+      enterProbed = readProtectEnterTablesProbed;
+      exitProbed = readProtectExitTablesProbed;
+      exitEmergency = writeEmergencyExitWindows;
+      enterReadProtect = readProtectEnterWindows;
+      exitReadProtect = readProtectExitWindows;
     }

@@ -1,4 +1,4 @@
-// The kinds of a candidate, and of what was chosen.
+// The kinds of a candidate; and of what was chosen, with 01's numbers. Nothing is refused.
 ghost use mathlib.Core.Path.{_≡_};
 ghost use Rattle.kinds.specs.Numbers.{kindNumber, kindLevel, kindLength};
 

@@ -1,4 +1,4 @@
-// The types that carry 01's numbers, below everyone who needs only them.
+// The types that carry 01's numbers, below everyone who needs only them. Nothing here is refused.
 pub mod focus;
 pub mod kind;
 pub mod mode;

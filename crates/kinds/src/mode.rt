@@ -1,4 +1,4 @@
-// The mode.
+// The mode: whether the governor works as usual, spares reads, or clears what stalls writes. Nothing is refused.
 ghost use mathlib.Core.Path.{_≡_};
 ghost use Rattle.kinds.specs.Numbers.{modeNumber};
 

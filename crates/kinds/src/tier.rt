@@ -1,4 +1,4 @@
-// The tier of a choice: which of its rules decided.
+// The tier of a choice: which of its rules decided; with 01's number. Nothing is refused.
 ghost use mathlib.Core.Path.{_≡_};
 ghost use Rattle.kinds.specs.Numbers.{tierNumber};
 

@@ -1,4 +1,4 @@
-// The three pressures, and which of them is dominant.
+// The three pressures, and which of them is dominant, with 01's number. Nothing is refused.
 ghost use mathlib.Core.Path.{_≡_};
 ghost use Rattle.kinds.specs.Vector.{dominantOf};
 ghost use Rattle.kinds.specs.Numbers.{dominantNumber};

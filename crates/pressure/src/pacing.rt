@@ -1,4 +1,4 @@
-// How long merge work pauses, and which pressure is dominant.
+// How long merge work pauses, by mode and pressure. Nothing is refused.
 ghost use mathlib.Core.Path.{_≡_};
 ghost use Rattle.pressure.specs.Pacing.{ceilingOf, pacingOf};
 use kinds::mode::GovernorMode;

@@ -1,4 +1,4 @@
--- A fresh state, and a state with another focus. Definitions only.
+-- A fresh state, and a state with another focus; a counter that cannot go up, and what a call that may be refused answers. Definitions only.
 use Prim.Native.Nat.{ℕ, _+_, _-_, _^_}
 use mathlib.Core.Bool.{Bool, cond}
 use lib.Dec.{ltb, eqb}

@@ -1,4 +1,4 @@
-// The governor's state by value, a fresh one, and what is read of it.
+// The governor's state by value: a fresh one, what is read of it, and another focus for it. Nothing here is refused.
 ghost use mathlib.Core.Path.{_≡_};
 ghost use Rattle.state.specs.State.{freshOf, focusedOf};
 use kinds::focus::FocusLevel;
