@@ -12,6 +12,12 @@ orderOf [] (y ∷ ys) = Less
 orderOf (x ∷ xs) [] = Greater
 orderOf (x ∷ xs) (y ∷ ys) = cond (ltb x y) Less (cond (ltb y x) Greater (orderOf xs ys))
 
+-- the order's number: smaller, equal, larger
+abbrev pub orderNumber : Order → ℕ
+orderNumber Less = 0
+orderNumber Equal = 1
+orderNumber Greater = 2
+
 abbrev pub isLess : Order → Bool
 isLess Less = true
 isLess Equal = false

@@ -1,8 +1,10 @@
 -- A call answers 0 and a new state, or a fault's number and the old one; a snapshot has the old one both ways. So a refused call changes nothing.
 use Prim.Native.Nat.{ℕ}
-use mathlib.Core.Path.{_≡_, refl, sym, subst}
+use mathlib.Core.Path.{_≡_, refl, sym}
 use mathlib.Core.Bool.{Bool, true, false, cond}
+use mathlib.Core.List.{[], _∷_}
 use lib.Dec.{T, eqb, eqb→eq}
+use borrow.Author.Tests.{eqb-true, eq-eqb, ne-eqb}
 use Rattle.refusals.specs.Refusals.{none}
 use Rattle.state.specs.declared.GovernorState.{GovernorState}
 use Rattle.state.specs.declared.Observed.{Observed}
@@ -12,7 +14,7 @@ use Rattle.state.specs.State.{answered}
 use Rattle.governor.specs.Engine.{engineFault, windowOf, sampleOf, engineOf}
 use Rattle.state.specs.Clock.{timesOf}
 use Rattle.report.specs.declared.snapshot.SnapshotAnswer.the-variants.{Stats, Refused}
-use Rattle.report.specs.Snapshot.{snapshotFault, statsOf, snapshotOf, snapshotRefusal}
+use Rattle.report.specs.Snapshot.{snapshotFault, statsOf, snapshotOf, snapshotRefusal, figures, snapshotNumbers}
 use Rattle.report.specs.Counters.{moveFault, trivialMoveOf, outcomeFault, outcomeOf}
 use Rattle.promises.specs.Reading.{Observation, sampled, counted}
 use Rattle.promises.specs.Calls.{Action, observe, move, outcome, choose, focus, snapshot, answerOf, acted}
@@ -53,11 +55,20 @@ kept G s (snapshot now) = λ n. refl
 pub refused-changes-nothing : (G : Tuning) (s : GovernorState) (a : Action) → ¬ (acted G s a .refusal ≡ none) → acted G s a .state ≡ s
 refused-changes-nothing G s a n = kept G s a (λ t. n (eqb→eq _ none t))
 
--- a snapshot is refused by its fault's number, and has figures where there is none
-pub snapshot-refused : (s : GovernorState) (now : ℕ) → snapshotRefusal (snapshotOf s now) ≡ snapshotFault s now
-unfolding snapshotOf
-snapshot-refused s now = go (snapshotFault s now) (eqb (snapshotFault s now) none) refl
-  where
-    go : (n : ℕ) (b : Bool) → eqb n none ≡ b → snapshotRefusal (cond b (Stats (statsOf s (timesOf (s .mode) (s .times) now))) (Refused n)) ≡ n
-    go n true e = sym (eqb→eq n none (subst T (sym e) tt))
-    go n false e = refl
+-- a snapshot with no fault answers 0 and its figures, and one with a fault that number and nothing else
+module _ (s : GovernorState) (now : ℕ) where
+  pub snapshot-figures : snapshotFault s now ≡ none → snapshotNumbers (snapshotOf s now) ≡ none ∷ figures (statsOf s (timesOf (s .mode) (s .times) now))
+  unfolding snapshotOf
+  snapshot-figures e = rw (eq-eqb (snapshotFault s now) none e)
+
+  pub snapshot-refused : ¬ (snapshotFault s now ≡ none) → snapshotNumbers (snapshotOf s now) ≡ snapshotFault s now ∷ []
+  unfolding snapshotOf
+  snapshot-refused n = rw (ne-eqb (snapshotFault s now) none n)
+
+  pub snapshot-fault : snapshotRefusal (snapshotOf s now) ≡ snapshotFault s now
+  unfolding snapshotOf
+  snapshot-fault = go (snapshotFault s now) (eqb (snapshotFault s now) none) refl
+    where
+      go : (n : ℕ) (b : Bool) → eqb n none ≡ b → snapshotRefusal (cond b (Stats (statsOf s (timesOf (s .mode) (s .times) now))) (Refused n)) ≡ n
+      go n true e = sym (eqb-true n none e)
+      go n false e = refl

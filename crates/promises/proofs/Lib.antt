@@ -7,6 +7,7 @@ pub mod Answers
 pub mod CallByCall
 pub mod Sound
 pub mod Counts
+pub mod Decimals
 pub mod Rows
 pub mod Written
 pub mod Drawn

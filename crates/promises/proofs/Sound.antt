@@ -29,7 +29,7 @@ use Rattle.promises.specs.Reading.{Observation, sampled, counted, Seen, 
 use Rattle.promises.specs.Calls.{Action, observe, move, outcome, choose, focus, snapshot, answerOf, acted, after}
 use Rattle.promises.proofs.Thresholds.{source-apart}
 use Rattle.promises.proofs.Turns.{at, grown, ends-in, window, turned, longer, by-turn}
-use Rattle.promises.proofs.Answers.{by-fault, newOf, by-answer, snapshot-refused}
+use Rattle.promises.proofs.Answers.{by-fault, newOf, by-answer, snapshot-fault}
 
 abbrev quiet : List Check → Type 0
 quiet cs = anyOf (λ c. eqb (c .number) badState && c .found) cs ≡ false
@@ -105,7 +105,7 @@ module _ (G : Tuning) (exits : 0 < G .exitEmergency) (enters : 0 < G .enterReadP
   answers s (outcome predicted actual) h = silent (outcomeChecks s predicted actual) refl
   answers s (choose kind) h = silent [] refl
   answers s (focus f) h = silent [] refl
-  answers s (snapshot now) h = rw (snapshot-refused s now) (silent (snapshotChecks s now) refl)
+  answers s (snapshot now) h = rw (snapshot-fault s now) (silent (snapshotChecks s now) refl)
 
   -- whatever was done before, and whatever is done next
   pub never-bad-state : (clock : ℕ) (l : List Action) (a : Action) → ¬ (acted G (after G (freshOf clock) l) a .refusal ≡ badState)

@@ -10,6 +10,11 @@ use lib.Dec.{leb, ltb, eqb}
 use Rattle.replay_text.specs.declared.numbers.Number.{Number}
 use Rattle.replay_text.specs.declared.numbers.Number.the-variants.{Value, None as NoNumber}
 
+-- what was read: 1 and the number, or 0 and 0
+abbrev pub readNumbers : Number → List ℕ
+readNumbers NoNumber = 0 ∷ 0 ∷ []
+readNumbers (Value n) = 1 ∷ n ∷ []
+
 abbrev pub isDigit : ℕ → Bool
 isDigit b = leb 48 b && leb b 57
 

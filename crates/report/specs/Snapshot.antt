@@ -1,12 +1,13 @@
 -- The twelve figures of a snapshot, whole milliseconds in its times. Definitions only.
 use Prim.Native.Nat.{ℕ, _-_, _/_, _^_}
 use mathlib.Core.Bool.{cond}
-use mathlib.Core.List.{[], _∷_}
+use mathlib.Core.List.{List, [], _∷_}
 use lib.Dec.{ltb, eqb}
-use lib.Ieee.{Float, binary64, div}
+use lib.Ieee.{Float, binary64, toBits, div}
 use Rattle.arith.specs.Whole.{floatOf}
 use Rattle.counts.specs.Counts.{anyLarge}
 use Rattle.refusals.specs.Refusals.{_gives_, firstFault, none, tooLarge, counterFull}
+use Rattle.kinds.specs.Numbers.{modeNumber}
 use Rattle.state.specs.declared.GovernorState.{GovernorState}
 use Rattle.state.specs.declared.Times.{Times}
 use Rattle.report.specs.declared.snapshot.GovernorStats.{GovernorStats}
@@ -52,3 +53,21 @@ snapshotOf s now =
 abbrev pub snapshotRefusal : SnapshotAnswer → ℕ
 snapshotRefusal (Stats t) = none
 snapshotRefusal (Refused n) = n
+
+-- its figures in order, floats as bits
+abbrev pub figures : GovernorStats → List ℕ
+figures t =
+    modeNumber (t .mode)
+    ∷ toBits binary64 (t .pressure)
+    ∷ toBits binary64 (t .«pressure_vector» .l0) ∷ toBits binary64 (t .«pressure_vector» .«deep_debt») ∷ toBits binary64 (t .«pressure_vector» .read)
+    ∷ t .«mode_switches»
+    ∷ t .«time_balanced_ms» ∷ t .«time_read_protect_ms» ∷ t .«time_write_emergency_ms»
+    ∷ toBits binary64 (t .«avg_batch_size»)
+    ∷ t .«trivial_moves_performed» ∷ t .«trivial_move_bytes_avoided»
+    ∷ t .«predicted_actual_samples» ∷ toBits binary64 (t .«predicted_actual_mean_abs_pct_error»)
+    ∷ []
+
+-- 01's numbers of the answer: 0 and the figures, or the refusal alone
+abbrev pub snapshotNumbers : SnapshotAnswer → List ℕ
+snapshotNumbers (Stats t) = none ∷ figures t
+snapshotNumbers (Refused n) = n ∷ []
