@@ -1,7 +1,7 @@
 -- In a cell of the table: the entry and the remainder are within 13 units of every sum and 2 of every one with 9/8 of a term.
 -- The point is (a + c) / c; in units of 2^-53 of c it is the cell's start, z steps and a part of one.
 use Prim.Native.Nat.{ℕ, suc, _+_, _-_, _*_, _^_, _≤_, _<_}
-use mathlib.Core.Path.{_≡_, refl, sym}
+use mathlib.Core.Path.{_≡_, sym}
 use native.Mathlib.Nat.{mul-le-mul-left, mul-le-mul-right, le-of-eq, le-refl, le-of-mul-le-mul-left}
 use native.Mathlib.Omega.{arith}
 use lib.Dec.{lit<}
@@ -11,7 +11,7 @@ use Rattle.arith.specs.Logarithm.{tab, rem}
 use Rattle.bracket.specs.Series.{pw, num, top, bot}
 use Rattle.bracket.specs.Tangent.{pw-pos, bot-pos, num-same, top-same}
 use Rattle.bracket.specs.Grid.{Under, Over, under, over}
-use Rattle.arith.specs.Logarithm.Cubic.{high, low, high-step, low-step}
+use Rattle.arith.specs.Logarithm.Cubic.{high, low, low-zero, high-step, low-step}
 use Rattle.arith.specs.Logarithm.Rem.{rem-high, rem-low}
 use Rattle.bracket.specs.Entries.{entry-under, entry-over}
 
@@ -48,7 +48,6 @@ module _ (n i c z g a : ℕ) (hi : i < 1024) (hc : 0 < c) (hz : z < 2 ^ 32) (at 
               (rw (← first) (fine u (2 ^ 44) _ _ x _ (through _ _ _ _ _ _ (pw-pos n (2048 + i) (omega arith)) (le-of-eq (num-same n i (2048 + i) (2 ^ 43 * c))) entry))) z g (omega arith) hg
 
   pub cell-over : a ≤ c → (getD tab i 0 - 1 + (rem z - 1)) * bot n (a + 2 * c) ≤ top n a (a + 2 * c) * 2 ^ 44
-  unfolding low
   cell-over ha = from (getD tab i 0 - 1) (entry-over n i hi) where
     fine : (u t N P x w : ℕ) → w ≡ 0 → x * P ≤ N * t → (u * x + w) * P ≤ t * u * N
     fine u t N P x w e h = rw e (omega (arith, mul-le-mul-left u h))
@@ -63,4 +62,4 @@ module _ (n i c z g a : ℕ) (hi : i < 1024) (hc : 0 < c) (hz : z < 2 ^ 32) (at 
           grid : Over n (2 ^ 53 * c) F (i * (2 ^ 43 * c) + 2 * (1024 + i) * c * z + g) (u * x + low (2 ^ 42) z)
           grid =
               over n (2 ^ 53 * c) (i * (2 ^ 43 * c)) (2 * (1024 + i) * c) (2 ^ 42) F (u * x) (omega arith) (omega arith) (low (2 ^ 42)) z (λ (y : ℕ) (l : y < z). low-step (2 ^ 42) y (omega arith))
-              (rw (← first) (fine u (2 ^ 44) _ _ x (low (2 ^ 42) 0) refl (through _ _ _ _ _ _ (bot-pos n (2048 + i) (omega arith)) entry (le-of-eq (sym (top-same n i (2048 + i) (2 ^ 43 * c))))))) z g (le-refl z) (omega arith)
+              (rw (← first) (fine u (2 ^ 44) _ _ x (low (2 ^ 42) 0) (low-zero (2 ^ 42)) (through _ _ _ _ _ _ (bot-pos n (2048 + i) (omega arith)) entry (le-of-eq (sym (top-same n i (2048 + i) (2 ^ 43 * c))))))) z g (le-refl z) (omega arith)

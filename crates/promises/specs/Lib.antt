@@ -1,7 +1,6 @@
 -- What a caller may rely on: the statements' own definitions.
 pub mod Reading
 pub mod Calls
-pub mod Same
 pub mod Counts
 pub mod Drawn
 pub mod Rows

@@ -5,8 +5,9 @@ use mathlib.Core.Bool.{Bool, true, false, cond}
 use lib.IntN.{pos}
 use lib.Dec.{T}
 use lib.Ieee.{Float, nan, inf, fin, ofBits, isNan, lt, le}
+use lib.Ieee.Bits.{is-true}
 use Rattle.arith.specs.Floats.{f0, f1, clampOf, minimumOf, maximumOf}
-use Rattle.arith.specs.Floats.Order.{le-no-nan, le-trans, le-refl, lt-le, not-lt-le}
+use Rattle.arith.specs.Floats.Order.{le-no-nan, le-trans, le-refl, lt-le, le-not-lt, not-lt-le}
 
 -- what holds of each branch holds of the choice
 chosen : (P : Float → Type 0) (t : Bool) {x y : Float} → (T t → P x) → (t ≡ false → P y) → P (cond t x y)
@@ -20,6 +21,23 @@ ends = tt
 
 numbers : (isNan f0 ≡ false) × (isNan f1 ≡ false)
 numbers = le-no-nan f0 f1 ends
+
+-- what it is: below 0, from 0 to 1, above 1, and of a NaN
+pub clamp-below : (x : Float) → T (lt x f0) → clampOf x ≡ f0
+unfolding clampOf
+clamp-below x h = rw (is-true (lt x f0) h)
+
+pub clamp-inside : (x : Float) → T (le f0 x) → T (le x f1) → clampOf x ≡ x
+unfolding clampOf
+clamp-inside x h k = rw (le-not-lt f0 x h, le-not-lt x f1 k)
+
+pub clamp-above : (x : Float) → T (lt f1 x) → clampOf x ≡ f1
+unfolding clampOf
+clamp-above x h = rw (le-not-lt f0 x (le-trans f0 f1 x ends (lt-le f1 x h)), is-true (lt f1 x) h)
+
+pub clamp-nan : clampOf nan ≡ nan
+unfolding clampOf lt ofBits
+clamp-nan = refl
 
 pub clamp-low : (x : Float) → isNan x ≡ false → T (le f0 (clampOf x))
 unfolding clampOf
@@ -50,13 +68,9 @@ clamp-mono x y h =
     (λ g. under-clamp f1 y (le-trans f1 x y (lt-le f1 x g) h) (le-refl f1 (numbers .1)))
     (λ g. under-clamp x y h (not-lt-le x f1 (n .0) (numbers .1) g)))
 
-pub clamp-nan : clampOf nan ≡ nan
-unfolding clampOf lt ofBits
-clamp-nan = refl
-
 pub clamp-zero : clampOf (fin true 0 (pos 0)) ≡ fin true 0 (pos 0)
-unfolding clampOf lt ofBits
-clamp-zero = refl
+unfolding le ofBits
+clamp-zero = clamp-inside (fin true 0 (pos 0)) tt tt
 
 -- ---- the minimum and the maximum
 one-of : (n t : Bool) (a b : Float) → (cond n b (cond t b a) ≡ a) ⊎ (cond n b (cond t b a) ≡ b)
@@ -81,6 +95,11 @@ pub le-maximum : (a b : Float) → isNan a ≡ false → isNan b ≡ false → T
 unfolding maximumOf
 le-maximum a b p q =
     rw p (chosen (λ z. T (le a z) × T (le b z)) (lt a b) (λ l. (lt-le a b l, le-refl b q)) (λ g. (le-refl a p, not-lt-le b a q p g)))
+
+-- whatever the other is
+pub le-maximum-right : (a b : Float) → isNan b ≡ false → T (le b (maximumOf a b))
+unfolding maximumOf
+le-maximum-right a b q = chosen (λ z. T (le b z)) (isNan a) (λ n. le-refl b q) (λ p. chosen (λ z. T (le b z)) (lt a b) (λ l. le-refl b q) (λ g. not-lt-le b a q p g))
 
 with-nan : (x : Float) → ((minimumOf nan x ≡ x) × (minimumOf x nan ≡ x)) × ((maximumOf nan x ≡ x) × (maximumOf x nan ≡ x))
 unfolding minimumOf maximumOf isNan lt

@@ -125,6 +125,13 @@ lt-not-le x y h k =
     let n = le-no-nan y x k in
     T-not (lt x y) (subst T (le-is y x (n .0) (n .1)) k) h
 
+pub le-not-lt : (x y : Float) → T (le x y) → lt y x ≡ false
+le-not-lt x y h = go (lt y x) (λ t. lt-not-le y x t h)
+  where
+    go : (b : Bool) → (T b → ⊥) → b ≡ false
+    go true n = absurd (n tt)
+    go false n = refl
+
 pub total : (x y : Float) → isNan x ≡ false → isNan y ≡ false → T (le x y) ⊎ T (lt y x)
 total x y p q = go (lt y x) refl
   where

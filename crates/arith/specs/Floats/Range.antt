@@ -2,16 +2,18 @@
 use mathlib.Core.Path.{_≡_, refl, sym, ap, subst}
 use mathlib.Core.Bool.{Bool, true, false, not, Bool·beq, cond, true≢false}
 use Prim.Native.Nat.{ℕ, zero, suc, _+_, _-_, _*_, _^_, _≤_, _<_}
-use native.Mathlib.Nat.{zero-lt-suc, zero-mul, mul-pos, mul-le-mul, mul-le-mul-right, le-of-mul-le-mul-right}
+use native.Mathlib.Nat.{zero-lt-suc, zero-mul, mul-pos, mul-le-mul, mul-le-mul-right, le-of-mul-le-mul-right, div-lt-iff-lt-mul}
 use native.Mathlib.Omega.{arith}
 use lib.Dec.{T, lit<, ltb, nltb→le}
-use lib.Ieee.{Float, nan, inf, fin, binary64, prec, low, emax, up, down, round, units, odd, sum, add, mul, div, lt, le, isNan}
+use lib.Ieee.{Float, nan, inf, fin, binary64, prec, low, emax, up, down, round, units, odd, neg, sum, add, sub, mul, div, lt, le, isNan, ofBits, toUnsigned}
 use lib.Ieee.Back.{round-whole}
 use lib.Ieee.Exact.{HasValue, round-exact, odd-sign}
 use lib.Ieee.Fits.{round-is, up-pos, down-pos}
 use lib.Ieee.Order.{round-mono}
 use borrow.Author.Tests.{le-ltb, ne-eqb}
+use Rattle.arith.specs.Floats.{f0, f1, clampOf}
 use Rattle.arith.specs.Floats.Order.{le-is}
+use Rattle.arith.specs.Floats.Clamp.{clamp-low, clamp-high}
 
 -- finite and at most k: `Small` may be -0, `Plain` has its sign clear
 abbrev pub Small : ℕ → Float → Type 0
@@ -80,6 +82,26 @@ round-small false k a c h C l z = plain-small k (round binary64 false a c) (roun
 round-small true k a c h C l z =
     rw (z refl) (zero-small k c (round binary64 true 0 c) C (round-exact binary64 true 0 c 0 0 C (lit< tt) (lit< tt) (sym (zero-mul c))))
 
+-- ---- by the value, and by the order
+
+pub value-plain : (k a c : ℕ) (x : Float) → 0 < c → a ≤ k * c → HasValue x false a c → Plain k x
+value-plain k a c (fin true m e) C h v = absurd (true≢false (v .0))
+value-plain k a c (fin false m e) C h v = le-of-mul-le-mul-right (omega (arith, v .1, mul-le-mul-right (down e) h)) C
+
+pub unit-small : (x : Float) → T (le f0 x) → T (le x f1) → Small 1 x
+unfolding le isNan ofBits
+unit-small (inf true) p q = absurd p
+unit-small (inf false) p q = absurd q
+unit-small (fin false m e) p q =
+    let h : m * up e * 1 ≤ 1 * 1 * down e = nltb→le (1 * 1 * down e) (m * up e * 1) (subst T (le-is (fin false m e) f1 refl refl) q) in
+    omega arith
+unit-small (fin true m e) p q =
+    let h : m * up e * 1 + 0 * 1 * down e ≤ 0 = nltb→le 0 (m * up e * 1 + 0 * 1 * down e) (subst T (le-is f0 (fin true m e) refl refl) p) in
+    first-zero m (up e) 1 (up-pos e) (lit< tt) (omega arith)
+
+pub clamp-small : (x : Float) → isNan x ≡ false → Small 1 (clampOf x)
+clamp-small x p = unit-small (clampOf x) (clamp-low x p) (clamp-high x p)
+
 -- ---- the operations
 
 pub mul-plain : (j k : ℕ) (x y : Float) → j * k ≤ 2 ^ 53 → Plain j x → Plain k y → Plain (j * k) (mul binary64 x y)
@@ -130,3 +152,19 @@ div-plain k a c (fin false m e) (fin false n d) h C l p v =
     let above : 0 < n * up d = omega (arith, down-pos d) in
     rw (ne-eqb n 0 some)
     (round-plain k (m * up e * down d) (n * up d * down e) h (mul-pos above (down-pos e)) (omega (arith, mul-le-mul-right (down d) p, mul-le-mul-right (k * down e) one)))
+
+-- what is at most k, taken from k
+pub sub-plain : (k : ℕ) (x y : Float) → k ≤ 2 ^ 53 → HasValue x false k 1 → Small k y → Plain k (sub binary64 x y)
+unfolding sub add neg sum
+sub-plain k (fin true m e) y h v p = absurd (true≢false (v .0))
+sub-plain k (fin false m e) (fin true n d) h v p =
+    let z : n * up d * down e ≡ 0 = omega (arith, ap (λ (w : ℕ). w * up d * down e) p) in
+    round-plain k (m * up e * down d + n * up d * down e) (down e * down d) h (mul-pos (down-pos e) (down-pos d)) (omega (arith, ap (λ (w : ℕ). w * down d) (v .1)))
+sub-plain k (fin false m e) (fin false n d) h v p =
+    let less : n * up d * down e ≤ m * up e * down d = omega (arith, mul-le-mul-right (down e) p, ap (λ (w : ℕ). w * down d) (v .1)) in
+    rw (le-ltb (m * up e * down d) (n * up d * down e) less)
+    (round-plain k (m * up e * down d - n * up d * down e) (down e * down d) h (mul-pos (down-pos e) (down-pos d)) (omega (arith, ap (λ (w : ℕ). w * down d) (v .1))))
+
+pub cut-plain : (k : ℕ) (x : Float) → Plain k x → toUnsigned 64 x ≤ k
+unfolding toUnsigned
+cut-plain k (fin false m e) h = omega (arith, div-lt-iff-lt-mul {k = down e} {x = m * up e} {y = k + 1} (down-pos e) .1 (omega (arith, down-pos e)))

@@ -20,6 +20,10 @@ pub low-is : (Z z : ℕ) → z < Z → low Z z + 1536 * (Z * (z * z)) + 1536 * (
 unfolding low
 low-is Z z h = omega (arith, mul-le-mul-left (Z * z) h)
 
+pub low-zero : (Z : ℕ) → low Z 0 ≡ 0
+unfolding low
+low-zero Z = omega arith
+
 pub high-step : (Z z : ℕ) → z < Z → 3072 * (Z * Z * Z) + high Z z * (Z + z) ≤ high Z (suc z) * (Z + z)
 high-step Z z h = go (high Z z) (high Z (suc z)) (omega (arith, high-is Z z (omega arith), high-is Z (suc z) h)) where
   go : (r q : ℕ) → q + 3072 * (Z * z) ≡ r + 3072 * (Z * Z) + 1024 * (3 * (z * z) + 3 * z + 1) → 3072 * (Z * Z * Z) + r * (Z + z) ≤ q * (Z + z)

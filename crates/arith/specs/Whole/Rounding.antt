@@ -4,7 +4,7 @@ use mathlib.Core.Path.{_≡_, refl, sym, ap, _∙_, subst}
 use mathlib.Core.Logic.{inl, inr}
 use mathlib.Core.Bool.{false}
 use Prim.Native.Nat.{ℕ, zero, suc, _+_, _-_, _*_, _/_, _%_, _^_, _≤_, _<_, zero-le, compare}
-use native.Mathlib.Nat.{le-trans, le-of-eq, le-of-lt, lt-of-le-of-lt, lt-of-lt-of-le, lt-of-not-le, not-le-of-lt, eq-or-lt-of-le, mul-one, mul-assoc, mul-pos, mul-le-mul, mul-le-mul-right, mul-div-cancel, div-one, mod-one, le-div-iff-mul-le, pow-succ'}
+use native.Mathlib.Nat.{le-trans, le-of-eq, le-of-lt, lt-of-le-of-lt, lt-of-lt-of-le, lt-of-not-le, not-le-of-lt, eq-or-lt-of-le, mul-one, mul-assoc, mul-pos, mul-le-mul-right, mul-div-cancel, div-one, mod-one, mod-lt, div-add-mod', le-div-iff-mul-le, pow-succ'}
 use native.Mathlib.Decide.{decLe}
 use native.Mathlib.Omega.{arith}
 use lib.Dec.{T, lit<, lit≤}
@@ -59,10 +59,6 @@ kept-ge n h =
     le-trans (le-div-iff-mul-le (pow-pos d) .1 (le-trans (le-of-eq (sym (pow-add 2 52 d))) reached)) (nearest-ge (n / 2 ^ d) (compare (n % 2 ^ d * 2) (2 ^ d)))
 
 -- ---- the rounded number
-pub rounded-le : (n : ℕ) → n < 2 ^ 64 → roundedOf n ≤ 2 ^ 64
-unfolding roundedOf
-rounded-le n h = mul-le-mul (kept-le n) (pow-mono (dropped-le n h))
-
 pub rounded-exact : (n : ℕ) → n ≤ 2 ^ 53 → roundedOf n ≡ n
 unfolding roundedOf
 rounded-exact n h = elim (eq-or-lt-of-le h) [
@@ -70,6 +66,37 @@ rounded-exact n h = elim (eq-or-lt-of-le h) [
   | inr l ↦
       let none : droppedOf n ≡ 0 = omega (arith, size-le n 53 l) in
       rw (none, div-one n, mod-one n, mul-one n)
+]
+
+-- a long one has 53 digits and those that are dropped
+long : (n : ℕ) → (n ≤ 2 ^ 53 → ⊥) → (0 < droppedOf n) × (size n ≡ 53 + droppedOf n)
+long n g = let l = size-gt n 53 (le-of-lt (lt-of-not-le g)) in (omega arith, omega arith)
+
+pub rounded-width : (w n : ℕ) → n < 2 ^ w → roundedOf n ≤ 2 ^ w
+unfolding roundedOf
+rounded-width w n h = elim (decLe n (2 ^ 53)) [
+  | yes l ↦ le-trans (le-of-eq (rounded-exact n l)) (le-of-lt h)
+  | no g ↦
+      let room : 53 + droppedOf n ≤ w = omega (arith, long n g .1, size-le n w h) in
+      le-trans (mul-le-mul-right (2 ^ droppedOf n) (kept-le n)) (le-trans (le-of-eq (sym (pow-add 2 53 (droppedOf n)))) (pow-mono room))
+]
+
+pub rounded-le : (n : ℕ) → n < 2 ^ 64 → roundedOf n ≤ 2 ^ 64
+rounded-le = rounded-width 64
+
+-- it is off by one part in 2^52 at most
+pub rounded-close : (n : ℕ) → (2 ^ 52 * roundedOf n ≤ 2 ^ 52 * n + n) × (2 ^ 52 * n ≤ 2 ^ 52 * roundedOf n + n)
+unfolding roundedOf
+rounded-close n = elim (decLe n (2 ^ 53)) [
+  | yes l ↦ let e = rounded-exact n l in (omega arith, omega arith)
+  | no g ↦
+      let d = droppedOf n in
+      let u = 2 ^ d in
+      let o = compare (n % u * 2) u in
+      let unit : 2 ^ 52 * u ≤ n = le-trans (le-of-eq (sym (pow-add 2 52 d))) (size-reaches n (52 + d) (omega (arith, long n g))) in
+      let low = mul-le-mul-right u (nearest-ge (n / u) o) in
+      let high = mul-le-mul-right u (nearest-le (n / u) o) in
+      (omega (arith, div-add-mod' n u), omega (arith, div-add-mod' n u, mod-lt n (pow-pos d)))
 ]
 
 -- two that drop as many digits are in the order of what they keep; else 2^53 units of the smaller lie between them
@@ -88,6 +115,26 @@ rounded-mono n p h =
           (le-trans (pow-mono room)
           (le-trans (le-of-eq (pow-add 2 52 k)) (mul-le-mul-right (2 ^ k) (kept-ge p (omega arith))))))
     ]
+
+-- 2^k - 1 is rounded to 2^k where it has digits to drop: by half a unit, a tie to the even one, or by less
+ones : (k : ℕ) → 2 ^ k ≤ roundedOf (2 ^ k - 1) + 1
+unfolding roundedOf
+ones k = elim (decLe (2 ^ k - 1) (2 ^ 53)) [
+  | yes l ↦ omega (arith, rounded-exact (2 ^ k - 1) l)
+  | no g ↦
+      let n = 2 ^ k - 1 in
+      let d = droppedOf n in
+      let all : size n ≡ 53 + d = long n g .1 in
+      let split : 2 ^ (53 + d) ≡ 2 ^ 53 * 2 ^ d = pow-add 2 53 d in
+      let least : 2 ^ (53 + d) ≤ 2 ^ k = pow-mono (omega (arith, size-le n k (omega (arith, pow-pos k)))) in
+      let two : 2 ^ 1 ≤ 2 ^ d = pow-mono (long n g .0) in
+      let up : 2 ^ 53 ≤ keptOf n = closest-mono (2 ^ 54 - 1) 2 n (2 ^ d) (lit< tt) (pow-pos d) (omega arith) in
+      omega (arith, mul-le-mul-right (2 ^ d) up, rw all at (size-lt n))
+]
+
+-- a power of two that n + 1 reaches, it reaches too
+pub rounded-reaches : (k n : ℕ) → 2 ^ k ≤ n + 1 → 2 ^ k ≤ roundedOf n + 1
+rounded-reaches k n h = omega (arith, ones k, rounded-mono (2 ^ k - 1) n (omega arith))
 
 pub rounded-pos : (n : ℕ) → 0 < n → 0 < roundedOf n
 rounded-pos n h = rw (rounded-exact 1 (lit≤ tt)) at (rounded-mono 1 n h)
