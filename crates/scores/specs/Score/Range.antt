@@ -17,15 +17,9 @@ use Rattle.arith.specs.Logarithm.{lnOf, unitsOf}
 use Rattle.arith.specs.Logarithm.Value.{ln-value, units-lt}
 use Rattle.kinds.specs.declared.vector.PressureVector.{PressureVector}
 use Rattle.records.specs.declared.candidate.CandidateEstimate.{CandidateEstimate}
-<<<<<<< HEAD:crates/scores/specs/Score/Range.antt
 use Rattle.candidate_faults.specs.Candidates.{inUnit}
 use Rattle.scores.specs.Score.{ageBonusWeight, benefitOf, scoreOf}
-use Rattle.arith.specs.Floats.Range.{Small, Plain, mul-plain, mul-small, add-small, add-plain, div-plain, first-zero}
-=======
-use Rattle.faults.specs.Candidates.{inUnit}
-use Rattle.choice.specs.Score.{ageBonusWeight, benefitOf, scoreOf}
 use Rattle.arith.specs.Floats.Range.{Small, Plain, unit-small, value-plain, mul-plain, mul-small, add-small, add-plain, div-plain}
->>>>>>> dcb57719855af7008c831dee2fee1712c59b0817:crates/choice/specs/Score/Range.antt
 
 pub record InRange (v : PressureVector) (e : CandidateEstimate) : Type 0 where
   pub vector : (inUnit (v .l0) ≡ true) × (inUnit (v .«deep_debt») ≡ true) × (inUnit (v .read) ≡ true)
