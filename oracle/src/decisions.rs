@@ -1,6 +1,7 @@
 //! 01's rules of a decision's words and of the log, written a second time.
 
 use crate::numbers::{bits, float};
+use crate::state::dominant;
 
 pub const CAPACITY: u64 = 4096;
 pub const LOG_WORDS: usize = 57_344;
@@ -13,6 +14,17 @@ pub fn is_decision(w: &[u64]) -> bool {
     }
     let (has_level, has_length) = (w[7] >= 2, w[7] == 2);
     (has_level || w[8] == 0) && (has_length || w[9] == 0)
+}
+
+/// The decision that a choice leads to: the vector, its dominant, the tier, how many candidates there were, and the winner's kind, rewrite and reliefs, or zeros.
+pub fn traced(v: [f64; 3], tier: u64, place: Option<u64>, cands: &[u64], ests: &[u64]) -> Vec<u64> {
+    let record = |list: &[u64], width: usize| place.and_then(|p| list.chunks_exact(width).nth(p.min(1 << 32) as usize)).map_or(vec![0; width], <[u64]>::to_vec);
+    let (c, e) = (record(cands, 6), record(ests, 9));
+    let mut w = vec![0, bits(v[0]), bits(v[1]), bits(v[2]), dominant(v), tier, (cands.len() / 6) as u64, c[0], c[1], c[2], e[2], e[6], e[7], e[8]];
+    if !is_decision(&w) {
+        w[7..10].fill(0);
+    }
+    written(&w)
 }
 
 /// A decision's words written anew: a NaN as its one pattern.

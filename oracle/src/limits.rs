@@ -58,6 +58,34 @@ fn shorten(q: &mut Question, i: usize) {
     list(q, i).pop();
 }
 
+/// A candidate's first three words at every limit of 01, just in and just out: kinds 0 to 4, the top level, a level or a length that the kind lacks, batch lengths.
+const CANDIDATES: [[u64; 3]; 15] = [
+    [0, 0, 0],
+    [1, 0, 0],
+    [1, 1, 0],
+    [1, 0, 1],
+    [2, u32::MAX as u64, 1],
+    [2, 1 << 32, 1],
+    [2, 1, 0],
+    [2, 1, 1],
+    [2, 1, 8],
+    [2, 1, 9],
+    [3, u32::MAX as u64, 0],
+    [3, 1 << 32, 0],
+    [3, 1, 0],
+    [3, 1, 1],
+    [4, 0, 0],
+];
+
+/// A good question once for each of them, with the first candidate's words changed.
+fn candidates_at_limits(good: fn() -> Question, argument: usize) -> impl Iterator<Item = Question> {
+    CANDIDATES.iter().map(move |words| {
+        let mut q = good();
+        list(&mut q, argument)[..3].copy_from_slice(words);
+        q
+    })
+}
+
 /// The words of a state in a question: mode 0, its own streak 11, times from 14, kept reading 17, switches 20, batch sum 21, count 22, moves 23, samples 26.
 fn word(q: &mut Question, i: usize, n: u64) {
     list(q, 0)[i] = n;
@@ -250,6 +278,7 @@ pub fn all() -> Vec<Question> {
         }
         .questions(),
     );
+    out.extend(candidates_at_limits(estimation, 3));
     let mut limits = estimation();
     *list(&mut limits, 3) = [3, 1, 0, 2, 0, 9].repeat(145);
     *list(&mut limits, 5) = room(9 * 145);
@@ -264,6 +293,10 @@ pub fn all() -> Vec<Question> {
             good: selection(),
             ways: vec![
                 (4, |q| *list(q, 6) = [3, 1, 0, 2, 0, 0].repeat(146)),
+                (4, |q| {
+                    *list(q, 6) = [3, 1, 0, 2, 0, 0].repeat(146);
+                    *list(q, 7) = [50, 0, 0, 50, 0, 7, 0, 0, 0].repeat(146);
+                }),
                 (5, |q| list(q, 6).push(1)),
                 (5, |q| list(q, 7).push(1)),
                 (5, |q| list(q, 7).truncate(27)),
@@ -281,6 +314,7 @@ pub fn all() -> Vec<Question> {
         }
         .questions(),
     );
+    out.extend(candidates_at_limits(selection, 6));
     let spoilt: [fn(&mut Question); 6] = [
         |q| list(q, 7)[2] = 1 << 50,
         |q| list(q, 7)[5] = LARGE,
@@ -296,6 +330,17 @@ pub fn all() -> Vec<Question> {
     }
     let full = (0..145u64).flat_map(|i| [2, i % 5, 1 + i % 8, 1, 0, 0]).collect::<Vec<u64>>();
     out.push(ask!("pick_best_cause_aware", 0, ONE, 0, 0, 0, 0, full, [5, 5, 10, 5, 0, 3, 0, ONE, 0].repeat(145)));
+    // a choice's answer as a decision: no winner, each place of the list and one past it, a place past any list, kinds that are none
+    for (won, place) in [(0, 0), (0, 3), (1, 0), (1, 3), (1, 4), (1, MAX)] {
+        let q = selection();
+        out.push(ask!("scheduling_decision", 0, ONE, 0, 0, won, place, 1, 1, 1, 3, q.list(6).to_vec(), q.list(7).to_vec()));
+    }
+    for words in CANDIDATES {
+        let q = selection();
+        let mut cands = q.list(6).to_vec();
+        cands[..3].copy_from_slice(&words);
+        out.push(ask!("scheduling_decision", ONE, 0, 0, 0, 1, 0, 0, 0, 0, 1, cands, q.list(7).to_vec()));
+    }
     // two ages next to each other, so large that the units of the port's logarithm may not part them
     for power in 40..53 {
         for (one, other) in [(0, 1), (1, 0)] {

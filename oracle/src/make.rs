@@ -8,13 +8,13 @@ use crate::state::State;
 use crate::tables;
 
 /// Every call that stands by itself, by the name that a question has. `of_u64` stands three times, so that the frozen rows stay as the dice gave them.
-pub const CALLS: [&str; 60] = [
+pub const CALLS: [&str; 61] = [
     "of_bits", "minimum", "maximum", "absolute", "clamp", "truncate", "of_u64", "of_u64", "of_u64", "sqrt", "ln_1p",
     "compare", "lesser", "greater", "part", "table_count", "table_at", "entry_count", "entry_at", "first_key", "last_key",
     "too_many_tables", "broken_tables", "too_many_entries", "broken_entries", "levels_out", "broken_keys", "level_places", "sort_level", "overlaps_at", "insert_at",
     "pacing_delay", "dominant", "fresh", "mode", "pressure", "pressure_vector", "focus", "set_focus", "observe", "observe_engine",
     "record_candidate_chosen", "with_trivial_move", "record_trivial_move", "with_outcome", "record_outcome", "snapshot",
-    "generate_candidates", "estimate_candidates", "cause_aware_score", "pick_best_cause_aware",
+    "generate_candidates", "estimate_candidates", "cause_aware_score", "pick_best_cause_aware", "scheduling_decision",
     "to_words", "of_words", "empty_log", "kept_place", "record_decision", "recent_decisions", "decimal", "bits", "replay",
 ];
 
@@ -267,6 +267,16 @@ impl Dice {
         ask!("pick_best_cause_aware", v[0], v[1], v[2], flag, level * flag, self.below(5), cands, ests)
     }
 
+    /// What a choice may have answered, and now and then what none can: a place past the lists, a refusal with a winner.
+    fn trace(&mut self, large: bool) -> Question {
+        let q = self.selection(large);
+        let count = q.list(6).len() as u64 / 6;
+        let place = if self.one_in(8) { self.number() } else { self.below(count + 1) };
+        let won = !self.one_in(5) as u64;
+        let refusal = if self.one_in(8) { self.below(11) } else { 0 };
+        ask!("scheduling_decision", q.number(0), q.number(1), q.number(2), refusal, won, place * won, q.number(3), q.number(4), q.number(5), self.below(4), q.list(6).to_vec(), q.list(7).to_vec())
+    }
+
     // ---- decisions
 
     pub fn decision(&mut self) -> Vec<u64> {
@@ -419,6 +429,7 @@ impl Dice {
                 q
             }
             "pick_best_cause_aware" => self.selection(large),
+            "scheduling_decision" => self.trace(large),
             "to_words" => ask!(call, self.decision()),
             "of_words" => {
                 let words = self.decision();

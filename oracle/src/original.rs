@@ -158,6 +158,7 @@ pub fn holds(q: &Question, line: &str, own_log: bool) -> Result<Seen, String> {
         "generate_candidates" if said[0] == 0 => generated(q, &said).map(|()| Seen::Same),
         "estimate_candidates" if said[0] == 0 => estimated(q, &said).map(|()| Seen::Same),
         "pick_best_cause_aware" if said[0] == 0 => picked(q, &said, own_log),
+        "scheduling_decision" if said[7] != 0 => traced(q, &said).map(|()| Seen::Same),
         "log_run" if q.numbers(0)[..3] == [0, 0, 0] => same_log((1..=q.number(4)).map(numbered_decision)).map(|()| Seen::Same),
         _ => Ok(Seen::Same),
     }
@@ -235,6 +236,17 @@ fn picked(q: &Question, said: &[u64], own_log: bool) -> Result<Seen, String> {
         return Ok(Seen::NearTie { agree });
     }
     same("choice", said.to_vec(), original).map(|()| Seen::Same)
+}
+
+/// What was chosen, by the original's own conversion from the winner's kind.
+fn traced(q: &Question, said: &[u64]) -> Check {
+    let c = q.list(10).chunks_exact(6).nth(q.number(5) as usize).expect("a winner in the list");
+    let chosen = match rust::ChosenKind::from(candidate(c, &[]).kind) {
+        rust::ChosenKind::L0 => [1, 0, 0],
+        rust::ChosenKind::LevelBatch { level, batch_len } => [2, level as u64, batch_len as u64],
+        rust::ChosenKind::TrivialMove { level } => [3, level as u64, 0],
+    };
+    same("chosen kind", &said[7..10], &chosen[..])
 }
 
 /// Whether the best two of the scores compared (the focus level's while focus goes on, else all) differ by no more than 2^-38 of the larger.

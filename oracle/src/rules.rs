@@ -1,6 +1,6 @@
 //! The answer that 01's rules give to a question: one line, as the port prints it.
 
-use crate::decisions::{Log, digest, filled, is_decision, written};
+use crate::decisions::{Log, digest, filled, is_decision, traced, written};
 use crate::numbers::{bits, float, logarithm, maximum, minimum, root};
 use crate::question::Question;
 use crate::replay;
@@ -193,11 +193,12 @@ fn selection(q: &Question) -> Option<String> {
             let f = p.focus.words();
             tell!(p.refusal, p.place.is_some(), p.place.unwrap_or(0) as u64, f[0], f[1], f[2], p.tier)
         }
+        "scheduling_decision" => tell!(traced(vector(), n(9), (n(4) == 1).then_some(n(5)), q.list(10), q.list(11))),
         _ => return None,
     })
 }
 
-/// The i-th decision of a `log_run` (docs/ANSWERS.md).
+/// The i-th decision of a `log_run` (docs/ROWS.md).
 pub fn numbered_decision(i: u64) -> Vec<u64> {
     (0..14u64)
         .map(|j| match j {

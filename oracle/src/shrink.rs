@@ -34,6 +34,7 @@ pub fn smallest(port: &mut Port, q: &Question) -> Question {
 fn groups(q: &Question) -> Vec<Vec<(usize, usize)>> {
     match q.name {
         "pick_best_cause_aware" => vec![vec![(6, 6), (7, 9)]],
+        "scheduling_decision" => vec![vec![(10, 6), (11, 9)]],
         "generate_candidates" => vec![vec![(0, 7)], vec![(3, 2)], vec![(1, 1)], vec![(4, 1)], vec![(5, 1)]],
         "estimate_candidates" => vec![vec![(3, 6)], vec![(0, 7)], vec![(2, 2)], vec![(4, 1)], vec![(5, 1)]],
         "sort_level" | "level_places" | "overlaps_at" | "broken_keys" | "table_at" => vec![vec![(0, 7)]],

@@ -43,6 +43,7 @@ fn names(call: &str) -> Vec<&'static str> {
         "estimate_candidates" => vec!["tables", "next number", "over budget", "candidates", "numbers", "estimates"],
         "cause_aware_score" => [&["l0", "deep_debt", "read"][..], &ESTIMATE[..]].concat(),
         "pick_best_cause_aware" => vec!["l0", "deep_debt", "read", "focus kept", "focus level", "focus streak", "candidates", "estimates"],
+        "scheduling_decision" => vec!["l0", "deep_debt", "read", "refusal", "won", "place", "focus kept", "focus level", "focus streak", "tier", "candidates", "estimates"],
         "to_words" | "of_words" => vec!["decision"],
         "kept_place" => vec!["first", "count", "sequence", "k"],
         "record_decision" => vec!["first", "count", "sequence", "log words", "seed", "decision"],
