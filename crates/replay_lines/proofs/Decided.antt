@@ -12,4 +12,4 @@ pub output-room-decides : (κs : _) (a : _) (one other : _) (e f : _) → output
 output-room-decides κs a one other e f p q = p .1 ∙ sym (q .1)
 
 pub replay-decides : (κs : _) (a : _) (one other : _) (e f : _) → replay.Post κs a one e → replay.Post κs a other f → (one ≡ other) × (now (e .1 .0) ≡ now (f .1 .0))
-replay-decides κs a one other e f p q = (p .0 ∙ sym (q .0), p .1 ∙ sym (q .1))
+replay-decides κs a one other e f p q = (p .0 ∙ sym (q .0), p .1 .0 ∙ sym (q .1 .0))
