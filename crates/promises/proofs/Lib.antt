@@ -10,3 +10,4 @@ pub mod Counts
 pub mod Rows
 pub mod Written
 pub mod Drawn
+pub mod Chain
