@@ -11,3 +11,4 @@ pub mod Rows
 pub mod Written
 pub mod Drawn
 pub mod Chain
+pub mod Estimable
