@@ -12,3 +12,4 @@ pub mod Written
 pub mod Drawn
 pub mod Chain
 pub mod Estimable
+pub mod Round
