@@ -1,5 +1,5 @@
 -- What an accepted generation writes, estimation takes: with the same tables and over-budget entries it refuses for the next number, or else for its room, and for nothing else.
-use mathlib.Core.Path.{_≡_, refl}
+use mathlib.Core.Path.{_≡_, refl, _∙_}
 use mathlib.Core.Bool.{true, false}
 use mathlib.Core.List.{List, [], _∷_, List·Memᴰ}
 use Prim.Native.Nat.{ℕ, _+_, _*_, _%_, _^_, _≤_}
@@ -68,3 +68,11 @@ module _ (q : GenerateInput) (room₁ room₂ : ℕ) (z : generateFault q room�
         places-in (madeOf q) each,
         a .levels,
       )
+
+  -- so it refuses nothing where the next number is in range and the room long enough
+  pub estimable-room : (next room : ℕ) → next ≤ 2 ^ 53 → 9 * length (madeOf q) ≤ room → estimateFault (estimating q next) room ≡ 0
+  estimable-room next room h k = estimable next room ∙ rw (le-ltb (2 ^ 53) next h, le-ltb room (9 * length (madeOf q)) k)
+
+  -- nine words for each of 145 always are
+  pub estimable-always : (next room : ℕ) → next ≤ 2 ^ 53 → 9 * maxCandidates ≤ room → estimateFault (estimating q next) room ≡ 0
+  estimable-always next room h k = estimable-room next room h (omega (arith, made-few q room₁ room₂ z))
