@@ -82,11 +82,13 @@ module _ (ks : List ℕ) (ts : List Table) where
         let n : 9 * suc (length es) ≡ 9 + 9 * length es = omega arith in
         rw n (bounded-append 9 (9 * length es) _ _ (level-bounded (e .level) _ _ (places-few (e .level + 1)) (omega (arith, byKey-small ks ts (e .level)))) (over-bounded es))
 
-    pub all-fit : (trigger : ℕ) (es : List Entry) → length es ≤ 16 → Fit start (offersOf ks ts trigger es)
+    pub all-bounded : (trigger : ℕ) (es : List Entry) → Bounded (1 + 9 * length es) (offersOf ks ts trigger es)
     unfolding offersOf l0Offers
-    all-fit trigger es h =
+    all-bounded trigger es =
         let count : ℕ = length (placesOf 0 ts) in
-        let all : Bounded (1 + 9 * length es) (offersOf ks ts trigger es) =
         bounded-append 1 (9 * length es) _ _ (bounded-test (ltb 0 count && leb trigger count) _ (omega (arith, merged-small ks ts (placesOf 1 ts) (placesOf 0 ts), places-few 1, places-few 0))) (over-bounded es)
-        in
+
+    pub all-fit : (trigger : ℕ) (es : List Entry) → length es ≤ 16 → Fit start (offersOf ks ts trigger es)
+    all-fit trigger es h =
+        let all = all-bounded trigger es in
         record { words = omega (arith, all .few, words-length 0 (offersOf ks ts trigger es)); numbers = omega (arith, all .short) }

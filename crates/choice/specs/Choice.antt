@@ -4,6 +4,8 @@ pub mod Tiers
 pub mod Accepted
 pub mod Won
 pub mod Laws
+pub mod Wins
+pub mod Focus
 use Prim.Native.Nat.{ℕ, _+_}
 use mathlib.Core.Bool.{cond}
 use mathlib.Core.List.{List, [], _∷_}

@@ -3,6 +3,8 @@ pub mod Call
 pub mod Members
 pub mod Tally
 pub mod Accepted
+pub mod Range
+pub mod ReadBack
 use Prim.Native.Nat.{ℕ, _+_, _-_, min, max}
 use mathlib.Core.Bool.{Bool, not, cond}
 use mathlib.Core.List.{List, [], _∷_, flatMap}

@@ -23,10 +23,22 @@ module _ {X : Type 0} where
       let h = neither (p y) (anyOf p ys) e in
       ⊎-elim (λ k. rw k (h .0)) (any-no p ys (h .1) x) (List·Memᴰ·cases-cons m)
 
+  -- and where it holds of no one, it holds of none
+  pub any-none : (p : X → Bool) (xs : List X) → ((x : X) → List·Memᴰ x xs → p x ≡ false) → anyOf p xs ≡ false
+  unfolding anyOf
+  any-none p [] h = refl
+  any-none p (x ∷ xs) h = rw (h x (List·Memᴰ·head refl)) (any-none p xs (λ y m. h y (List·Memᴰ·tail m)))
+
   pub getD-in : (xs : List X) (i : ℕ) (d : X) → i < length xs → List·Memᴰ (getD xs i d) xs
   getD-in [] i d h = absurd (omega arith)
   getD-in (x ∷ xs) zero d h = List·Memᴰ·head refl
   getD-in (x ∷ xs) (suc i) d h = List·Memᴰ·tail (getD-in xs i d (omega arith))
+
+  -- each one stands at a place
+  pub in-at : (xs : List X) (d x : X) → List·Memᴰ x xs → (i : ℕ) × (i < length xs) × (x ≡ getD xs i d)
+  in-at [] d x m = absurd (List·Memᴰ·not-nil m)
+  in-at (y ∷ ys) d x m =
+      ⊎-elim (λ e. (0, omega arith, e)) (λ k. let p = in-at ys d x k in (suc (p .0), omega (arith, p .1), p .2)) (List·Memᴰ·cases-cons m)
 
   pub any-at : (p : X → Bool) (d : X) (xs : List X) (i : ℕ) → anyOf p xs ≡ false → i < length xs → p (getD xs i d) ≡ false
   any-at p d xs i e h = any-no p xs e (getD xs i d) (getD-in xs i d h)

@@ -2,9 +2,9 @@
 use Prim.Native.Nat.{ℕ, suc, _+_, _≤_, _<_}
 use native.Mathlib.Numerals.{add-one}
 use native.Mathlib.Omega.{arith}
-use mathlib.Core.Path.{_≡_, refl, ap, _∙_}
+use mathlib.Core.Path.{_≡_, refl, sym, ap, _∙_}
 use mathlib.Core.Logic.{_⊎_, ⊎-elim}
-use mathlib.Core.Bool.{Bool, true, false, cond, _&&_}
+use mathlib.Core.Bool.{Bool, true, false, cond, _&&_, true≢false}
 use mathlib.Core.List.{List, [], _∷_, _++_, List·Memᴰ, List·Memᴰ·head, List·Memᴰ·tail, List·Memᴰ·not-nil, List·Memᴰ·cases-cons}
 use lib.ListN.{length, drop, getD, drop-of-length-le}
 use lib.Seq.{drop-cons}
@@ -23,6 +23,23 @@ module _ {X : Type 0} (p : X → Bool) where
       go : (t : Bool) → p y ≡ t → List·Memᴰ x (cond t (y ∷ filterOf p ys) (filterOf p ys)) → (List·Memᴰ x (filterOf p ys) → List·Memᴰ x ys × (p x ≡ true)) → List·Memᴰ x (y ∷ ys) × (p x ≡ true)
       go true e k f = ⊎-elim (λ h. (List·Memᴰ·head h, ap p h ∙ e)) (λ h. (List·Memᴰ·tail (f h .0), f h .1)) (List·Memᴰ·cases-cons k)
       go false e k f = (List·Memᴰ·tail (f k .0), f k .1)
+
+  pub filter-has : (xs : List X) (x : X) → List·Memᴰ x xs → p x ≡ true → List·Memᴰ x (filterOf p xs)
+  unfolding filterOf
+  filter-has [] x m e = absurd (List·Memᴰ·not-nil m)
+  filter-has (y ∷ ys) x m e = go (p y) refl (List·Memᴰ·cases-cons m) (λ k. filter-has ys x k e)
+    where
+      go : (t : Bool) → p y ≡ t → (x ≡ y) ⊎ List·Memᴰ x ys → (List·Memᴰ x ys → List·Memᴰ x (filterOf p ys)) → List·Memᴰ x (cond t (y ∷ filterOf p ys) (filterOf p ys))
+      go true h k f = ⊎-elim (λ q. List·Memᴰ·head q) (λ q. List·Memᴰ·tail (f q)) k
+      go false h k f = ⊎-elim (λ q. absurd (true≢false (sym e ∙ ap p q ∙ h))) f k
+
+  -- where none is kept, the test holds of no one
+  pub filter-none : (xs : List X) → filterOf p xs ≡ [] → (x : X) → List·Memᴰ x xs → p x ≡ false
+  filter-none xs e x m = go (p x) refl
+    where
+      go : (t : Bool) → p x ≡ t → p x ≡ false
+      go true h = absurd (List·Memᴰ·not-nil (rw e at (filter-has xs x m h)))
+      go false h = h
 
   pub filter-small : (xs : List X) → length (filterOf p xs) ≤ length xs
   unfolding filterOf
@@ -65,6 +82,18 @@ module _ {X : Type 0} where
       go : (t : Bool) → filterOf p (filterOf q xs) ≡ filterOf (λ y. q y && p y) xs → filterOf p (cond t (x ∷ filterOf q xs) (filterOf q xs)) ≡ cond (t && p x) (x ∷ filterOf (λ y. q y && p y) xs) (filterOf (λ y. q y && p y) xs)
       go true e = ap (λ (l : List X). cond (p x) (x ∷ l) l) e
       go false e = e
+
+  -- two tests that hold of no one together keep no more than there are
+  pub filter-apart : (p q : X → Bool) (xs : List X) → ((x : X) → p x ≡ true → q x ≡ false) → length (filterOf p xs) + length (filterOf q xs) ≤ length xs
+  unfolding filterOf
+  filter-apart p q [] h = omega arith
+  filter-apart p q (x ∷ xs) h = go (p x) (q x) (h x) (filter-apart p q xs h)
+    where
+      go : (s t : Bool) → (s ≡ true → t ≡ false) → length (filterOf p xs) + length (filterOf q xs) ≤ length xs → length (cond s (x ∷ filterOf p xs) (filterOf p xs)) + length (cond t (x ∷ filterOf q xs) (filterOf q xs)) ≤ suc (length xs)
+      go true true k r = absurd (true≢false (k refl))
+      go true false k r = omega arith
+      go false true k r = omega arith
+      go false false k r = omega arith
 
   -- a test that holds of each keeps all
   pub filter-all : (p : X → Bool) (xs : List X) → ((x : X) → p x ≡ true) → filterOf p xs ≡ xs

@@ -20,3 +20,8 @@ module _ {X Y : Type 0} (f : X → List Y) where
   unfolding flatMap
   flat-length w e [] = omega arith
   flat-length w e (x ∷ xs) = omega (arith, length-append (f x) (flatMap f xs), e x, flat-length w e xs)
+
+  pub flat-small : (w : ℕ) → ((x : X) → length (f x) ≤ w) → (xs : List X) → length (flatMap f xs) ≤ w * length xs
+  unfolding flatMap
+  flat-small w e [] = omega arith
+  flat-small w e (x ∷ xs) = omega (arith, length-append (f x) (flatMap f xs), e x, flat-small w e xs)

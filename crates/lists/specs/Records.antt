@@ -1,6 +1,7 @@
 -- Words as records of any width: how many there are, and which words each is; and a list by its places.
 use mathlib.Core.Path.{_≡_, refl, ap, _∙_}
-use mathlib.Core.List.{List, [], _∷_}
+use mathlib.Core.Logic.{⊎-elim}
+use mathlib.Core.List.{List, [], _∷_, List·Memᴰ, List·Memᴰ·not-nil, List·Memᴰ·cases-cons}
 use Prim.Native.Nat.{ℕ, zero, suc, _+_, _*_, _/_, _≤_, _<_}
 use native.Mathlib.Nat.{add-zero, add-suc, suc-add, zero-add}
 use native.Mathlib.Omega.{arith}
@@ -22,6 +23,12 @@ module _ {X : Type 0} (f : ℕ → X) where
   tabulate-at zero i k d h = absurd (omega arith)
   tabulate-at (suc n) i zero d h = rw add-zero
   tabulate-at (suc n) i (suc k) d h = tabulate-at n (suc i) k d (omega arith) ∙ rw (suc-add, add-suc)
+
+  pub tabulate-in : (n i : ℕ) (x : X) → List·Memᴰ x (tabulate n i) → (k : ℕ) × (i ≤ k) × (k < i + n) × (x ≡ f k)
+  unfolding tabulate
+  tabulate-in zero i x m = absurd (List·Memᴰ·not-nil m)
+  tabulate-in (suc n) i x m =
+      ⊎-elim (λ e. (i, omega arith, omega arith, e)) (λ h. let r = tabulate-in n (suc i) x h in (r .0, omega (arith, r .1), omega (arith, r .2), r .3)) (List·Memᴰ·cases-cons m)
 
 -- `from` says what stands at a word; a record is w words, and what is left over is none
 unfoldable pub recordsOf : {X : Type 0} → ℕ → (List ℕ → ℕ → X) → List ℕ → List X

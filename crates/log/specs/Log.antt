@@ -2,6 +2,7 @@
 pub mod Sound
 pub mod Store
 pub mod Kept
+pub mod Newest
 pub mod Run
 pub mod Last
 use Prim.Native.Nat.{ℕ, zero, suc, _+_, _-_, _*_, _%_, _^_, min}

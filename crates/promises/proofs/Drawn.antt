@@ -2,7 +2,7 @@
 use Prim.Native.Nat.{ℕ, _+_, _≤_, _<_}
 use native.Mathlib.Omega.{arith}
 use mathlib.Core.Path.{_≡_, refl, sym, ap, subst, _∙_}
-use mathlib.Core.Bool.{Bool, true, false, not, cond, true≢false}
+use mathlib.Core.Bool.{Bool, true, false, cond, true≢false}
 use mathlib.Core.List.{List, [], _∷_, _++_, flatMap}
 use lib.Dec.{T, eqb, eqb→eq}
 use lib.ListN.{length, take}
@@ -12,6 +12,7 @@ use Rattle.records.specs.declared.tables.Table.{Table}
 use Rattle.records.specs.declared.tables.Entry.{Entry}
 use Rattle.records.specs.declared.candidate.Candidate.{Candidate}
 use Rattle.estimates.specs.Estimate.{lookup, matched, atLevel, offLevel, bytesOf, isL0Candidate, inputsOf, estimateOf}
+use Rattle.estimates.specs.Estimate.Members.{level-and-rest}
 use Rattle.kinds.specs.declared.vector.PressureVector.{PressureVector}
 use Rattle.kinds.specs.declared.focus.FocusState.{FocusState}
 use Rattle.kinds.specs.declared.winner.Winner.the-variants.{At}
@@ -78,19 +79,6 @@ module _ (ts : List Table) where
   named-few nothing = omega arith
   named-few (one {n} {ns} {t} {found} f d) = omega (arith, named-few d)
   named-few (none {n} {ns} {found} l d) = omega (arith, named-few d)
-
--- ---- their bytes
-
--- on a level and off it, none left out and none twice
-pub level-and-rest : (level : ℕ) (ts : List Table) → bytesOf (atLevel level ts) + bytesOf (offLevel level ts) ≡ bytesOf ts
-unfolding filterOf bytesOf
-level-and-rest level [] = omega arith
-level-and-rest level (t ∷ ts) = go (eqb (t .level) level) (level-and-rest level ts)
-  where
-    go : (b : Bool) → bytesOf (atLevel level ts) + bytesOf (offLevel level ts) ≡ bytesOf ts
-        → bytesOf (cond b (t ∷ atLevel level ts) (atLevel level ts)) + bytesOf (cond (not b) (t ∷ offLevel level ts) (offLevel level ts)) ≡ t .size + bytesOf ts
-    go true h = omega arith
-    go false h = omega arith
 
 -- ---- an estimate, by any tables that the candidate's numbers name: there are such, `matched-listed`, and no others, `matched-only`
 

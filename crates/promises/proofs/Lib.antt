@@ -11,3 +11,6 @@ pub mod Decimals
 pub mod Rows
 pub mod Written
 pub mod Drawn
+pub mod Chain
+pub mod Estimable
+pub mod Round

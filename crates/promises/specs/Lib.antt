@@ -4,3 +4,4 @@ pub mod Calls
 pub mod Counts
 pub mod Drawn
 pub mod Rows
+pub mod Round

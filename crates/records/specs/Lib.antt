@@ -2,3 +2,4 @@
 pub mod Candidates
 pub mod Tables
 pub mod Words
+pub mod Joined

@@ -1,7 +1,8 @@
 -- Laws of a list of checks, of any length.
 use mathlib.Core.Path.{_≡_, refl, sym, _∙_}
 use mathlib.Core.Bool.{Bool, true, false, _&&_, cond, true≢false}
-use mathlib.Core.List.{List, [], _∷_, _++_}
+use mathlib.Core.Logic.{_⊎_, inl, inr}
+use mathlib.Core.List.{List, [], _∷_, _++_, map, List·Memᴰ, List·Memᴰ·head, List·Memᴰ·tail, List·Memᴰ·cases-cons}
 use Prim.Native.Nat.{ℕ}
 use native.Mathlib.Omega.{arith}
 use lib.Dec.{T, ltb, eqb, ltb→lt}
@@ -9,7 +10,7 @@ use lib.Ieee.Fits.{and-l, and-r}
 use borrow.Author.Tests.{eq-eqb, ne-eqb}
 use Rattle.lists.specs.Any.{anyOf}
 use Rattle.lists.specs.Tests.{neither}
-use Rattle.refusals.specs.Refusals.{Check, _gives_, firstFault}
+use Rattle.refusals.specs.Refusals.{Check, _gives_, firstFault, none}
 
 abbrev pub Clear : List Check → Type 0
 Clear [] = Unit
@@ -28,6 +29,16 @@ none-found (c ∷ cs) t e = go (c .found) refl e (none-found cs (and-r (ltb 0 (c
     go : (b : Bool) → c .found ≡ b → cond b (c .number) (firstFault cs) ≡ 0 → (firstFault cs ≡ 0 → Clear cs) → Clear (c ∷ cs)
     go true p k f = absurd (omega (arith, ltb→lt 0 (c .number) (and-l (ltb 0 (c .number)) (numbered cs) t)))
     go false p k f = (p, f k)
+
+-- the numbers that a list can give
+pub fault-in : (cs : List Check) → List·Memᴰ (firstFault cs) (none ∷ map (λ (c : Check). c .number) cs)
+fault-in [] = List·Memᴰ·head refl
+fault-in (c ∷ cs) = go (c .found) (List·Memᴰ·cases-cons (fault-in cs))
+  where
+    go : (b : Bool) → (firstFault cs ≡ none) ⊎ List·Memᴰ (firstFault cs) (map (λ (c : Check). c .number) cs) → List·Memᴰ (cond b (c .number) (firstFault cs)) (none ∷ c .number ∷ map (λ (c : Check). c .number) cs)
+    go true m = List·Memᴰ·tail (List·Memᴰ·head refl)
+    go false (inl e) = List·Memᴰ·head e
+    go false (inr m) = List·Memᴰ·tail (List·Memᴰ·tail m)
 
 -- the last check counts where the others give 0
 pub fault-last : (cs : List Check) (b : Bool) (n : ℕ) → T (numbered cs) → firstFault (cs ++ (b gives n ∷ [])) ≡ cond (eqb (firstFault cs) 0) (cond b n 0) (firstFault cs)

@@ -1,2 +1,3 @@
 -- The decision that a choice leads to.
 pub mod Trace
+pub mod Laws

@@ -66,7 +66,7 @@ kind-back L0 = refl
 kind-back (LevelBatch l n) = refl
 kind-back (TrivialMove l) = refl
 
-words-good : (d : SchedulingDecision) → kindLevel (d .chosen) ≤ 2 ^ 32 - 1 → isDecision (decisionWords d) ≡ true
+pub words-good : (d : SchedulingDecision) → kindLevel (d .chosen) ≤ 2 ^ 32 - 1 → isDecision (decisionWords d) ≡ true
 unfolding isDecision decisionWords
 words-good d h = rw (source-back (d .dominant) .0, tier-back (d .tier) .0, kind-good (d .chosen) h)
 
@@ -116,7 +116,7 @@ by-four P a b c d (suc (suc (suc zero))) h = d
 by-four P a b c d (suc (suc (suc (suc n)))) h = absurd (omega arith)
 
 -- a kind that is good loses nothing
-kind-again : (k l n : ℕ) → chosenGood k l n ≡ true
+pub kind-again : (k l n : ℕ) → chosenGood k l n ≡ true
     → (kindNumber (kindFrom k l n) ≡ k) × (kindLevel (kindFrom k l n) ≡ l) × (kindLength (kindFrom k l n) ≡ n)
 unfolding chosenGood kindFrom
 kind-again k l n e =

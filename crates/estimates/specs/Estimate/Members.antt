@@ -1,16 +1,17 @@
 -- Which tables an estimate speaks of: those that a number is looked up as, and those of a level, are tables of the list. So bytes are sums over tables of the list, and sizes bound them.
 use mathlib.Core.Path.{_≡_, refl}
 use mathlib.Core.Logic.{⊎-elim}
-use mathlib.Core.Bool.{false, not}
+use mathlib.Core.Bool.{Bool, true, false, not, cond}
 use mathlib.Core.List.{List, [], _∷_, flatMap, List·Memᴰ, List·Memᴰ·head, List·Memᴰ·tail, List·Memᴰ·not-nil, List·Memᴰ·append-cases, List·Memᴰ·eq-of-singleton}
-use Prim.Native.Nat.{ℕ, _-_, _*_, _^_, _≤_}
+use Prim.Native.Nat.{ℕ, _+_, _-_, _*_, _^_, _≤_}
 use native.Mathlib.Omega.{arith}
-use lib.ListN.{length, take}
+use lib.ListN.{length, take, length-take}
 use lib.Dec.{eqb, ltb}
 use borrow.Author.Tests.{ltb-false}
 use Rattle.lists.specs.Tests.{neither}
 use Rattle.lists.specs.Any.{anyOf, any-no}
-use Rattle.lists.specs.Filter.{filter-in}
+use Rattle.lists.specs.Filter.{filterOf, filter-in}
+use Rattle.lists.specs.Flat.{flat-small}
 use Rattle.records.specs.declared.tables.Table.{Table}
 use Rattle.faults.specs.Tables.{tableBroken}
 use Rattle.estimates.specs.Estimate.{lookup, matched, atLevel, offLevel, bytesOf}
@@ -37,6 +38,25 @@ at-among level ts t m = filter-in (λ u. eqb (u .level) level) ts t m .0
 
 pub off-among : (level : ℕ) (ts : List Table) → Among ts (offLevel level ts)
 off-among level ts t m = filter-in (λ u. not (eqb (u .level) level)) ts t m .0
+
+-- no more tables than numbers
+lookup-small : (ts : List Table) (n : ℕ) → length (lookup ts n) ≤ 1
+unfolding lookup
+lookup-small ts n = omega (arith, length-take 1 (filterOf (λ t. eqb (t .number) n) ts))
+
+pub matched-small : (ts : List Table) (ns : List ℕ) → length (matched ts ns) ≤ length ns
+matched-small ts ns = omega (arith, flat-small (lookup ts) 1 (lookup-small ts) ns)
+
+-- on a level and off it, none left out and none twice
+pub level-and-rest : (level : ℕ) (ts : List Table) → bytesOf (atLevel level ts) + bytesOf (offLevel level ts) ≡ bytesOf ts
+unfolding filterOf bytesOf
+level-and-rest level [] = omega arith
+level-and-rest level (t ∷ ts) = go (eqb (t .level) level) (level-and-rest level ts)
+  where
+    go : (b : Bool) → bytesOf (atLevel level ts) + bytesOf (offLevel level ts) ≡ bytesOf ts
+        → bytesOf (cond b (t ∷ atLevel level ts) (atLevel level ts)) + bytesOf (cond (not b) (t ∷ offLevel level ts) (offLevel level ts)) ≡ t .size + bytesOf ts
+    go true h = omega arith
+    go false h = omega arith
 
 -- ---- sums and counts over tables of the list
 

@@ -15,13 +15,10 @@ use Rattle.decisions.specs.Decision.{decisionWidth, decisionWords}
 use Rattle.log.specs.Log.{maxKept, logWords, logBad, keptPlace, nextPlace, nextSequence, numbered, recordFault, recordedOf, recordedWords, keptFrom, keptWords, recentFault, recentOf, recentOut}
 use Rattle.log.specs.Log.Sound.{sound-good}
 use Rattle.log.specs.Log.Kept.{kept-grown, kept-replaced}
+use Rattle.log.specs.Log.Newest.{words-length}
 use Rattle.log.specs.Log.Run.{Logged, started, added, run, refusals, numberedFrom, lastOf, joined}
 
 -- ---- the words of decisions in a row
-
-words-length : (d : SchedulingDecision) → length (decisionWords d) ≡ decisionWidth
-unfolding decisionWords
-words-length d = refl
 
 joined-snoc : (ds : List SchedulingDecision) (d : SchedulingDecision) → joined (ds ++ (d ∷ [])) ≡ joined ds ++ decisionWords d
 unfolding joined

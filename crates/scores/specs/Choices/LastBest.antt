@@ -38,6 +38,21 @@ filter-best less p (c ∷ cs) b t h = go (p c) refl h (filter-best less p cs b t
 
 -- ---- `lastBest` finds it
 
+-- whatever the order, it finds one of them where there is one
+found : (less : Choice → Choice → Bool) (b : Choice) (cs : List Choice) → List·Memᴰ (lastFrom less b cs) (b ∷ cs)
+unfolding lastFrom
+found less b [] = List·Memᴰ·head refl
+found less b (c ∷ cs) = go (less c b) (found less b cs) (found less c cs)
+  where
+    go : (t : Bool) → List·Memᴰ (lastFrom less b cs) (b ∷ cs) → List·Memᴰ (lastFrom less c cs) (c ∷ cs) → List·Memᴰ (lastFrom less (cond t b c) cs) (b ∷ c ∷ cs)
+    go true p q = ⊎-elim (λ e. List·Memᴰ·head e) (λ k. List·Memᴰ·tail (List·Memᴰ·tail k)) (List·Memᴰ·cases-cons p)
+    go false p q = List·Memᴰ·tail q
+
+pub best-some : (less : Choice → Choice → Bool) (cs : List Choice) (c : Choice) → List·Memᴰ c cs → (b : Choice) × (lastBest less cs ≡ b ∷ []) × List·Memᴰ b cs
+unfolding lastBest
+best-some less [] c m = absurd (List·Memᴰ·not-nil m)
+best-some less (x ∷ xs) c m = (lastFrom less x xs, refl, found less x xs)
+
 -- on choices of which P holds, `less` is the strict part of a total order in which several may be equal
 pub record Orders (less : Choice → Choice → Bool) (P : Choice → Type 0) : Type 0 where
   pub asym : (x y : Choice) → P x → P y → less x y ≡ true → less y x ≡ false
