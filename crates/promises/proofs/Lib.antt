@@ -10,3 +10,5 @@ pub mod Counts
 pub mod Rows
 pub mod Written
 pub mod Drawn
+pub mod Vector
+pub mod ProbeBelow

@@ -5,3 +5,4 @@ pub mod Same
 pub mod Counts
 pub mod Drawn
 pub mod Rows
+pub mod Vector

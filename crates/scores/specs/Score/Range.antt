@@ -1,16 +1,15 @@
 -- Every score in range is a finite number with its sign clear: +0 or above, for any rewrite and any age.
-use mathlib.Core.Path.{_≡_, refl, sym, subst}
+use mathlib.Core.Path.{_≡_, sym, subst}
 use mathlib.Core.Bool.{true, false, true≢false}
 use Prim.Native.Nat.{ℕ, _+_, _*_, _^_, max, _≤_, _<_}
 use native.Mathlib.Nat.{mul-le-mul-right, le-of-mul-le-mul-right}
 use native.Mathlib.Omega.{arith}
-use lib.Dec.{T, lit<, lit≤, nltb→le}
+use lib.Dec.{T, lit≤}
 use lib.Pow.{pow-pos, pow-mono}
-use lib.Ieee.{Float, inf, fin, binary64, up, down, le, isNan, fits, ofBits}
+use lib.Ieee.{Float, fin, binary64, down, le, fits, ofBits}
 use lib.Ieee.Exact.{HasValue}
-use lib.Ieee.Fits.{up-pos, and-l, and-r, div-fits}
+use lib.Ieee.Fits.{and-l, and-r, div-fits}
 use Rattle.arith.specs.Floats.{f0, f1}
-use Rattle.arith.specs.Floats.Order.{le-is}
 use Rattle.arith.specs.Whole.{roundedOf}
 use Rattle.arith.specs.Whole.Rounding.{rounded-le}
 use Rattle.arith.specs.Root.{rootOf, rootDigits, rootShift}
@@ -22,7 +21,8 @@ use Rattle.kinds.specs.declared.vector.PressureVector.{PressureVector}
 use Rattle.records.specs.declared.candidate.CandidateEstimate.{CandidateEstimate}
 use Rattle.candidate_faults.specs.Candidates.{inUnit}
 use Rattle.scores.specs.Score.{ageBonusWeight, benefitOf, scoreOf}
-use Rattle.arith.specs.Floats.Range.{Small, Plain, mul-plain, mul-small, add-small, add-plain, div-plain, first-zero}
+use Rattle.arith.specs.Floats.Range.{Small, Plain, mul-plain, mul-small, add-small, add-plain, div-plain}
+use Rattle.arith.specs.Floats.InUnit.{unit-small}
 
 pub record InRange (v : PressureVector) (e : CandidateEstimate) : Type 0 where
   pub vector : (inUnit (v .l0) ≡ true) × (inUnit (v .«deep_debt») ≡ true) × (inUnit (v .read) ≡ true)
@@ -32,20 +32,9 @@ pub record InRange (v : PressureVector) (e : CandidateEstimate) : Type 0 where
 
 -- ---- the parts
 
-unit-small : (x : Float) → T (le f0 x) → T (le x f1) → Small 1 x
-unfolding le isNan ofBits
-unit-small (inf true) p q = absurd p
-unit-small (inf false) p q = absurd q
-unit-small (fin false m e) p q =
-    let h : m * up e * 1 ≤ 1 * 1 * down e = nltb→le (1 * 1 * down e) (m * up e * 1) (subst T (le-is (fin false m e) f1 refl refl) q) in
-    omega arith
-unit-small (fin true m e) p q =
-    let h : m * up e * 1 + 0 * 1 * down e ≤ 0 = nltb→le 0 (m * up e * 1 + 0 * 1 * down e) (subst T (le-is f0 (fin true m e) refl refl) p) in
-    first-zero m (up e) 1 (up-pos e) (lit< tt) (omega arith)
-
 pub in-unit : (x : Float) → inUnit x ≡ true → Small 1 x
 unfolding inUnit
-in-unit x e = let t = subst T (sym e) tt in unit-small x (and-l (le f0 x) (le x f1) t) (and-r (le f0 x) (le x f1) t)
+in-unit x e = let t = subst T (sym e) tt in unit-small x (and-l (le f0 x) (le x f1) t, and-r (le f0 x) (le x f1) t)
 
 of-value : (k a c : ℕ) (x : Float) → 0 < c → a ≤ k * c → HasValue x false a c → Plain k x
 of-value k a c (fin true m e) C h v = absurd (true≢false (v .0))
