@@ -3,7 +3,14 @@ pub mod Nan
 pub mod Absolute
 pub mod Order
 pub mod Clamp
+pub mod Extremes
+pub mod Sign
+pub mod Commute
 pub mod Range
+pub mod NotBelow
+pub mod Rounds
+pub mod Monotone
+pub mod InUnit
 use mathlib.Core.Bool.{false, cond}
 use lib.Ieee.{Float, nan, inf, fin, binary64, ofBits, isNan, lt}
 

@@ -1,5 +1,6 @@
 -- The choice, as the Rust's on lists (filter, last maximum): the best of a level, and the three tiers. Definitions only.
 pub mod Call
+pub mod Refusal
 pub mod Tiers
 pub mod Accepted
 pub mod Won

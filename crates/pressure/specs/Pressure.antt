@@ -1,4 +1,5 @@
 -- The components of pressure, and the signals after one observation. Definitions only.
+pub mod Range
 use lib.Ieee.{Float, binary64, ofBits, add, sub, mul, div}
 use Rattle.arith.specs.Whole.{floatOf}
 use Rattle.arith.specs.Floats.{minimumOf, maximumOf, clampOf, f1}

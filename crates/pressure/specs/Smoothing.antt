@@ -1,4 +1,5 @@
 -- The moving average: 0.3 times the new value plus (1.0 - 0.3) times the old, in that order. Definitions only.
+pub mod Range
 use lib.Ieee.{Float, binary64, ofBits, add, sub, mul}
 use Rattle.arith.specs.Floats.{f1}
 

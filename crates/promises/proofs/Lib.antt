@@ -11,6 +11,8 @@ pub mod Decimals
 pub mod Rows
 pub mod Written
 pub mod Drawn
+pub mod Vector
+pub mod ProbeBelow
 pub mod Chain
 pub mod Estimable
 pub mod Round

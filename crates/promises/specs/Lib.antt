@@ -4,4 +4,5 @@ pub mod Calls
 pub mod Counts
 pub mod Drawn
 pub mod Rows
+pub mod Vector
 pub mod Round

@@ -1,8 +1,8 @@
--- A float differs from itself exactly if it is a NaN.
+-- NaNs: a float differs from itself exactly if it is one, and a difference with one is one.
 use mathlib.Core.Path.{_≡_, refl}
 use mathlib.Core.Bool.{true, false}
 use Prim.Native.Nat.{_*_}
-use lib.Ieee.{Float, nan, inf, fin, isNan, ne, eq, up, down}
+use lib.Ieee.{Float, nan, inf, fin, Format, isNan, ne, eq, up, down, sub}
 use lib.Dec.{eqb, eqb-refl}
 use lib.Ieee.Bits.{is-true}
 
@@ -19,3 +19,9 @@ unfolding isNan
 nan-is nan e = refl
 nan-is (inf s) e = cc
 nan-is (fin s m k) e = cc
+
+pub sub-nan : (f : Format) (x : Float) → sub f x nan ≡ nan
+unfolding sub
+sub-nan f nan = refl
+sub-nan f (inf s) = refl
+sub-nan f (fin s m e) = refl

@@ -36,19 +36,19 @@ opposite u v = go (ltb u v) (ltb v u) refl refl
     go false false a b = eq-eqb u v (omega (arith, ltb-false))
 
 -- ---- finite values: x is (plus x - minus x) / den x, so that one pair of sums compares x and y whatever their signs
-abbrev plus : Float → ℕ
+abbrev pub plus : Float → ℕ
 plus nan = 0
 plus (inf s) = 0
 plus (fin true m e) = 0
 plus (fin false m e) = m * up e
 
-abbrev minus : Float → ℕ
+abbrev pub minus : Float → ℕ
 minus nan = 0
 minus (inf s) = 0
 minus (fin true m e) = m * up e
 minus (fin false m e) = 0
 
-abbrev side : Float → Float → ℕ
+abbrev pub side : Float → Float → ℕ
 side x y = plus x * den y + minus y * den x
 
 lt-fin : (x y : Float) → T (finite x) → T (finite y) → lt x y ≡ ltb (side x y) (side y x)
@@ -69,12 +69,17 @@ le-fin : (x y : Float) → T (finite x) → T (finite y) → le x y ≡ not (ltb
 unfolding le
 le-fin x y p q = rw (lt-fin x y p q, eq-fin x y p q) (opposite (side x y) (side y x))
 
+-- the order by those sums, both ways
+pub sides : (x y : Float) → T (finite x) → T (finite y) → T (le x y) → side x y ≤ side y x
+sides x y p q h = nltb→le (side y x) (side x y) (subst T (le-fin x y p q) h)
+
+pub of-sides : (x y : Float) → T (finite x) → T (finite y) → side x y ≤ side y x → T (le x y)
+of-sides x y p q h = rw (le-fin x y p q, le-ltb (side y x) (side x y) h) tt
+
 trans-fin : (x y z : Float) → T (finite x) → T (finite y) → T (finite z) → T (le x y) → T (le y z) → T (le x z)
 trans-fin x y z p q r h k =
-    let a : side x y ≤ side y x = nltb→le (side y x) (side x y) (subst T (le-fin x y p q) h) in
-    let b : side y z ≤ side z y = nltb→le (side z y) (side y z) (subst T (le-fin y z q r) k) in
-    let c : side x z * den y ≤ side z x * den y = omega (arith, mul-le-mul-right (den z) a, mul-le-mul-right (den x) b) in
-    rw (le-fin x z p r, le-ltb (side z x) (side x z) (le-of-mul-le-mul-right c (den-pos y))) tt
+    let c : side x z * den y ≤ side z x * den y = omega (arith, mul-le-mul-right (den z) (sides x y p q h), mul-le-mul-right (den x) (sides y z q r k)) in
+    of-sides x z p r (le-of-mul-le-mul-right c (den-pos y))
 
 -- ---- all values
 pub le-is : (x y : Float) → isNan x ≡ false → isNan y ≡ false → le x y ≡ not (lt y x)

@@ -2,18 +2,19 @@
 use mathlib.Core.Path.{_≡_, refl, sym, ap, subst}
 use mathlib.Core.Bool.{Bool, true, false, not, Bool·beq, cond, true≢false}
 use Prim.Native.Nat.{ℕ, zero, suc, _+_, _-_, _*_, _^_, _≤_, _<_}
-use native.Mathlib.Nat.{zero-lt-suc, zero-mul, mul-pos, mul-le-mul, mul-le-mul-right, le-of-mul-le-mul-right, div-lt-iff-lt-mul}
+use native.Mathlib.Nat.{zero-lt-suc, mul-pos, mul-le-mul, mul-le-mul-right, le-of-mul-le-mul-right}
 use native.Mathlib.Omega.{arith}
 use lib.Dec.{T, lit<, ltb, nltb→le}
-use lib.Ieee.{Float, nan, inf, fin, binary64, prec, low, emax, up, down, round, units, odd, neg, sum, add, sub, mul, div, lt, le, isNan, ofBits, toUnsigned}
+use lib.Ieee.{Float, nan, inf, fin, binary64, up, down, round, sum, add, mul, div, lt, le, isNan, ofBits}
 use lib.Ieee.Back.{round-whole}
-use lib.Ieee.Exact.{HasValue, round-exact, odd-sign}
-use lib.Ieee.Fits.{round-is, up-pos, down-pos}
+use lib.Ieee.Exact.{HasValue}
+use lib.Ieee.Fits.{down-pos}
 use lib.Ieee.Order.{round-mono}
+use lib.Ieee.Scale.{finite}
 use borrow.Author.Tests.{le-ltb, ne-eqb}
-use Rattle.arith.specs.Floats.{f0, f1, clampOf}
-use Rattle.arith.specs.Floats.Order.{le-is}
-use Rattle.arith.specs.Floats.Clamp.{clamp-low, clamp-high}
+use Rattle.arith.specs.Floats.{f0}
+use Rattle.arith.specs.Floats.Order.{le-is, of-sides}
+use Rattle.arith.specs.Floats.Sign.{Signed, round-sign, round-zero}
 
 -- finite and at most k: `Small` may be -0, `Plain` has its sign clear
 abbrev pub Small : ℕ → Float → Type 0
@@ -31,27 +32,16 @@ Plain k (fin true m e) = ⊥
 pub plain-small : (k : ℕ) (x : Float) → Plain k x → Small k x
 plain-small k (fin false m e) h = h
 
+pub small-finite : (k : ℕ) (x : Float) → Small k x → T (finite x)
+small-finite k (fin false m e) h = tt
+small-finite k (fin true m e) h = tt
+
+pub small-least : (k : ℕ) (x : Float) → Small k x → T (le f0 x)
+unfolding ofBits
+small-least k (fin false m e) h = of-sides f0 (fin false m e) tt tt (omega arith)
+small-least k (fin true m e) h = of-sides f0 (fin true m e) tt tt (omega (arith, ap (λ (n : ℕ). n * up e) h))
+
 -- ---- rounding
-
--- the sign s, on a number or an infinity
-abbrev Signed : Bool → Float → Type 0
-Signed s nan = ⊥
-Signed s (inf t) = t ≡ s
-Signed s (fin t m e) = t ≡ s
-
-value-sign : (x : Float) (s : Bool) (a c : ℕ) → HasValue x s a c → Signed s x
-value-sign (fin t m e) s a c v = v .0
-
-units-sign : (s : Bool) (q k : ℕ) → Signed s (units binary64 s q k)
-unfolding units
-units-sign s q k = go (ltb (q * 2 ^ k) (2 ^ (low binary64 + suc (emax binary64))))
-  where
-    go : (b : Bool) → Signed s (cond b (odd (suc (prec binary64)) s q k (low binary64)) (inf s))
-    go true = value-sign (odd (suc (prec binary64)) s q k (low binary64)) s (q * 2 ^ k) (2 ^ low binary64) (odd-sign (suc (prec binary64)) s q k (low binary64))
-    go false = refl
-
-round-sign : (s : Bool) (a c : ℕ) → Signed s (round binary64 s a c)
-round-sign s a c = subst (Signed s) (sym (round-is binary64 s a c)) (units-sign s _ _)
 
 -- below a float that is worth k
 under : (k : ℕ) (x y : Float) → Signed false x → HasValue y false k 1 → T (le x y) → Plain k x
@@ -66,41 +56,22 @@ under k (fin false m e) (fin false n d) s v h =
 
 pub round-plain : (k a c : ℕ) → k ≤ 2 ^ 53 → 0 < c → a ≤ k * c → Plain k (round binary64 false a c)
 round-plain k a c h C l =
-    under k (round binary64 false a c) (round binary64 false k 1) (round-sign false a c) (round-whole binary64 false k h) (round-mono binary64 a c k 1 C (lit< tt) (omega arith))
+    under k (round binary64 false a c) (round binary64 false k 1) (round-sign binary64 false a c) (round-whole binary64 false k h) (round-mono binary64 a c k 1 C (lit< tt) (omega arith))
 
 pub first-zero : (m u c : ℕ) → 0 < u → 0 < c → m * u * c ≡ 0 → m ≡ 0
 first-zero zero u c U C e = refl
 first-zero (suc m) u c U C e = let h : 0 < suc m * u * c = mul-pos (mul-pos (zero-lt-suc m) U) C in absurd (omega arith)
 
 -- a negative zero stays one
-zero-small : (k c : ℕ) (x : Float) → 0 < c → HasValue x true 0 c → Small k x
-zero-small k c (fin true m e) C v = first-zero m (up e) c (up-pos e) C (omega (arith, v .1))
-zero-small k c (fin false m e) C v = absurd (true≢false (sym (v .0)))
-
 round-small : (s : Bool) (k a c : ℕ) → k ≤ 2 ^ 53 → 0 < c → a ≤ k * c → (s ≡ true → a ≡ 0) → Small k (round binary64 s a c)
 round-small false k a c h C l z = plain-small k (round binary64 false a c) (round-plain k a c h C l)
-round-small true k a c h C l z =
-    rw (z refl) (zero-small k c (round binary64 true 0 c) C (round-exact binary64 true 0 c 0 0 C (lit< tt) (lit< tt) (sym (zero-mul c))))
+round-small true k a c h C l z = rw (z refl, round-zero binary64 true c C) refl
 
--- ---- by the value, and by the order
+-- ---- by the value
 
 pub value-plain : (k a c : ℕ) (x : Float) → 0 < c → a ≤ k * c → HasValue x false a c → Plain k x
 value-plain k a c (fin true m e) C h v = absurd (true≢false (v .0))
 value-plain k a c (fin false m e) C h v = le-of-mul-le-mul-right (omega (arith, v .1, mul-le-mul-right (down e) h)) C
-
-pub unit-small : (x : Float) → T (le f0 x) → T (le x f1) → Small 1 x
-unfolding le isNan ofBits
-unit-small (inf true) p q = absurd p
-unit-small (inf false) p q = absurd q
-unit-small (fin false m e) p q =
-    let h : m * up e * 1 ≤ 1 * 1 * down e = nltb→le (1 * 1 * down e) (m * up e * 1) (subst T (le-is (fin false m e) f1 refl refl) q) in
-    omega arith
-unit-small (fin true m e) p q =
-    let h : m * up e * 1 + 0 * 1 * down e ≤ 0 = nltb→le 0 (m * up e * 1 + 0 * 1 * down e) (subst T (le-is f0 (fin true m e) refl refl) p) in
-    first-zero m (up e) 1 (up-pos e) (lit< tt) (omega arith)
-
-pub clamp-small : (x : Float) → isNan x ≡ false → Small 1 (clampOf x)
-clamp-small x p = unit-small (clampOf x) (clamp-low x p) (clamp-high x p)
 
 -- ---- the operations
 
@@ -152,19 +123,3 @@ div-plain k a c (fin false m e) (fin false n d) h C l p v =
     let above : 0 < n * up d = omega (arith, down-pos d) in
     rw (ne-eqb n 0 some)
     (round-plain k (m * up e * down d) (n * up d * down e) h (mul-pos above (down-pos e)) (omega (arith, mul-le-mul-right (down d) p, mul-le-mul-right (k * down e) one)))
-
--- what is at most k, taken from k
-pub sub-plain : (k : ℕ) (x y : Float) → k ≤ 2 ^ 53 → HasValue x false k 1 → Small k y → Plain k (sub binary64 x y)
-unfolding sub add neg sum
-sub-plain k (fin true m e) y h v p = absurd (true≢false (v .0))
-sub-plain k (fin false m e) (fin true n d) h v p =
-    let z : n * up d * down e ≡ 0 = omega (arith, ap (λ (w : ℕ). w * up d * down e) p) in
-    round-plain k (m * up e * down d + n * up d * down e) (down e * down d) h (mul-pos (down-pos e) (down-pos d)) (omega (arith, ap (λ (w : ℕ). w * down d) (v .1)))
-sub-plain k (fin false m e) (fin false n d) h v p =
-    let less : n * up d * down e ≤ m * up e * down d = omega (arith, mul-le-mul-right (down e) p, ap (λ (w : ℕ). w * down d) (v .1)) in
-    rw (le-ltb (m * up e * down d) (n * up d * down e) less)
-    (round-plain k (m * up e * down d - n * up d * down e) (down e * down d) h (mul-pos (down-pos e) (down-pos d)) (omega (arith, ap (λ (w : ℕ). w * down d) (v .1))))
-
-pub cut-plain : (k : ℕ) (x : Float) → Plain k x → toUnsigned 64 x ≤ k
-unfolding toUnsigned
-cut-plain k (fin false m e) h = omega (arith, div-lt-iff-lt-mul {k = down e} {x = m * up e} {y = k + 1} (down-pos e) .1 (omega (arith, down-pos e)))

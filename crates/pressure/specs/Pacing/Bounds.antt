@@ -1,16 +1,18 @@
 -- A pause lies between 5,000 nanoseconds and its mode's ceiling, whatever the pressure.
 use mathlib.Core.Path.{_≡_, refl}
-use mathlib.Core.Logic.{_⊎_, inl, inr}
+use Prim.Native.Nat.{ℕ, _≤_}
 use mathlib.Core.Bool.{Bool, true, false}
-use Prim.Native.Nat.{ℕ, _^_, _≤_}
-use native.Mathlib.Nat.{one-mul}
-use lib.Dec.{lit≤}
-use lib.Ieee.{Float, nan, binary64, ofBits, isNan, neg, add, sub, mul, toUnsigned}
-use lib.Ieee.Exact.{HasValue}
-use Rattle.arith.specs.Floats.{clampOf, maximumOf}
-use Rattle.arith.specs.Floats.Nan.{nan-is}
-use Rattle.arith.specs.Floats.Clamp.{clamp-nan, maximum-nan, maximum-one-of, le-maximum-right}
-use Rattle.arith.specs.Floats.Range.{Small, Plain, clamp-small, mul-small, sub-plain, plain-small, cut-plain}
+use lib.Dec.{T, lit≤}
+use lib.Ieee.{Float, nan, binary64, ofBits, isNan, neg, add, sub, mul, le, toUnsigned}
+use lib.Ieee.Scale.{finite}
+use Rattle.arith.specs.Floats.{f0, clampOf, maximumOf}
+use Rattle.arith.specs.Floats.Nan.{nan-is, sub-nan}
+use Rattle.arith.specs.Floats.Order.{le-no-nan, le-refl, le-trans}
+use Rattle.arith.specs.Floats.Clamp.{clamp-low, clamp-high, clamp-nan, maximum-nan}
+use Rattle.arith.specs.Floats.Extremes.{maximum-most, maximum-least}
+use Rattle.arith.specs.Floats.Range.{Small, small-finite, small-least, mul-small}
+use Rattle.arith.specs.Floats.InUnit.{unit-small}
+use Rattle.arith.specs.Floats.Monotone.{sub-mono}
 use Rattle.arith.specs.Whole.Truncation.{truncated-mono}
 use Rattle.kinds.specs.declared.mode.GovernorMode.{GovernorMode}
 use Rattle.kinds.specs.declared.mode.GovernorMode.the-variants.{Balanced, ReadProtect, WriteEmergency}
@@ -23,8 +25,8 @@ most ReadProtect = 40000
 most WriteEmergency = 20000
 
 pub delay-least : (mode : GovernorMode) (pressure : Float) → 5000 ≤ pacingOf mode pressure
-unfolding pacingOf isNan toUnsigned ofBits
-delay-least mode x = truncated-mono minDelay _ (le-maximum-right _ minDelay refl)
+unfolding pacingOf toUnsigned ofBits
+delay-least mode x = truncated-mono minDelay _ (maximum-least minDelay _ minDelay (unfold le in tt))
 
 pub delay-nan : (mode : GovernorMode) → pacingOf mode nan ≡ 5000
 unfolding pacingOf mul sub add neg toUnsigned ofBits
@@ -32,44 +34,31 @@ delay-nan Balanced = rw (clamp-nan, maximum-nan minDelay .0)
 delay-nan ReadProtect = rw (clamp-nan, maximum-nan minDelay .0)
 delay-nan WriteEmergency = rw (clamp-nan, maximum-nan minDelay .0)
 
--- ---- no more than the ceiling
+-- a ceiling from 5,000 up, of which 0 taken off is nothing
+module _ (ceiling : Float) (C : T (finite ceiling)) (above : T (le minDelay ceiling)) (nothing-off : T (le (sub binary64 ceiling f0) ceiling)) where
+  abbrev span : Float
+  span = sub binary64 ceiling minDelay
 
-ceiling-value : (mode : GovernorMode) → HasValue (ceilingOf mode) false (most mode) 1
-unfolding ofBits
-ceiling-value Balanced = (refl, refl)
-ceiling-value ReadProtect = (refl, refl)
-ceiling-value WriteEmergency = (refl, refl)
-
-limits : (mode : GovernorMode) → (most mode ≤ 2 ^ 53) × Plain (most mode) minDelay
-unfolding ofBits
-limits Balanced = (lit≤ tt, lit≤ tt)
-limits ReadProtect = (lit≤ tt, lit≤ tt)
-limits WriteEmergency = (lit≤ tt, lit≤ tt)
-
-module _ (mode : GovernorMode) where
   abbrev left : Float → Float
-  left x = sub binary64 (ceilingOf mode) x
+  left x = maximumOf (sub binary64 ceiling (mul binary64 (clampOf x) span)) minDelay
 
-  left-plain : (x : Float) → Small (most mode) x → Plain (most mode) (left x)
-  left-plain x h = sub-plain (most mode) (ceilingOf mode) x (limits mode .0) (ceiling-value mode) h
-
-  -- the part of the ceiling that the pressure takes
-  part-small : (x : Float) → isNan x ≡ false → Small (most mode) (mul binary64 (clampOf x) (left minDelay))
-  part-small x n =
-      rw (one-mul (most mode)) at (mul-small 1 (most mode) (clampOf x) (left minDelay) (rw (one-mul (most mode)) (limits mode .0)) (clamp-small x n)
-      (plain-small (most mode) (left minDelay) (left-plain minDelay (plain-small (most mode) minDelay (limits mode .1)))))
-
-  higher : (x : Float) → Plain (most mode) x → toUnsigned 64 (maximumOf x minDelay) ≤ most mode
-  higher x h = go (maximum-one-of x minDelay)
+  below : Small 35000 span → (x : Float) → T (le (left x) ceiling)
+  unfolding mul ofBits
+  below S x = go (isNan x) refl
     where
-      go : (maximumOf x minDelay ≡ x) ⊎ (maximumOf x minDelay ≡ minDelay) → toUnsigned 64 (maximumOf x minDelay) ≤ most mode
-      go (inl e) = rw e (cut-plain (most mode) x h)
-      go (inr e) = rw e (cut-plain (most mode) minDelay (limits mode .1))
+      go : (t : Bool) → isNan x ≡ t → T (le (left x) ceiling)
+      go true e = rw (nan-is x e, clamp-nan, sub-nan binary64 ceiling, maximum-nan minDelay .0) above
+      go false e =
+          let off : Float = mul binary64 (clampOf x) span in
+          let s : Small 35000 off = mul-small 1 35000 (clampOf x) span (lit≤ tt) (unit-small (clampOf x) (clamp-low x e, clamp-high x e)) S in
+          let less : T (le (sub binary64 ceiling off) (sub binary64 ceiling f0)) = sub-mono binary64 ceiling ceiling off f0 C C (small-finite 35000 off s) tt (le-refl ceiling (le-no-nan minDelay ceiling above .1)) (small-least 35000 off s) in
+          maximum-most ceiling _ minDelay (le-trans _ _ ceiling less nothing-off) above
 
-  pub delay-most : (pressure : Float) → pacingOf mode pressure ≤ most mode
-  unfolding pacingOf toUnsigned ofBits
-  delay-most x = go (isNan x) refl
-    where
-      go : (b : Bool) → isNan x ≡ b → pacingOf mode x ≤ most mode
-      go true n = rw (nan-is x n, delay-nan mode) (cut-plain (most mode) minDelay (limits mode .1))
-      go false n = higher _ (left-plain _ (part-small x n))
+  most-left : Small 35000 span → (x : Float) → toUnsigned 64 (left x) ≤ toUnsigned 64 ceiling
+  most-left S x = truncated-mono (left x) ceiling (below S x)
+
+pub delay-most : (mode : GovernorMode) (pressure : Float) → pacingOf mode pressure ≤ most mode
+unfolding pacingOf le sub toUnsigned ofBits
+delay-most Balanced x = most-left (ceilingOf Balanced) tt tt tt (lit≤ tt) x
+delay-most ReadProtect x = most-left (ceilingOf ReadProtect) tt tt tt (lit≤ tt) x
+delay-most WriteEmergency x = most-left (ceilingOf WriteEmergency) tt tt tt (lit≤ tt) x

@@ -19,7 +19,8 @@ use Rattle.kinds.specs.declared.vector.PressureVector.{PressureVector}
 use Rattle.records.specs.declared.candidate.CandidateEstimate.{CandidateEstimate}
 use Rattle.candidate_faults.specs.Candidates.{inUnit}
 use Rattle.scores.specs.Score.{ageBonusWeight, benefitOf, scoreOf}
-use Rattle.arith.specs.Floats.Range.{Small, Plain, unit-small, value-plain, mul-plain, mul-small, add-small, add-plain, div-plain}
+use Rattle.arith.specs.Floats.Range.{Small, Plain, value-plain, mul-plain, mul-small, add-small, add-plain, div-plain}
+use Rattle.arith.specs.Floats.InUnit.{unit-small}
 
 pub record InRange (v : PressureVector) (e : CandidateEstimate) : Type 0 where
   pub vector : (inUnit (v .l0) ≡ true) × (inUnit (v .«deep_debt») ≡ true) × (inUnit (v .read) ≡ true)
@@ -31,7 +32,7 @@ pub record InRange (v : PressureVector) (e : CandidateEstimate) : Type 0 where
 
 pub in-unit : (x : Float) → inUnit x ≡ true → Small 1 x
 unfolding inUnit
-in-unit x e = let t = subst T (sym e) tt in unit-small x (and-l (le f0 x) (le x f1) t) (and-r (le f0 x) (le x f1) t)
+in-unit x e = let t = subst T (sym e) tt in unit-small x (and-l (le f0 x) (le x f1) t, and-r (le f0 x) (le x f1) t)
 
 ln-plain : (n : ℕ) → n < 2 ^ 64 → Plain 512 (lnOf n)
 ln-plain n h =
