@@ -16,3 +16,4 @@ pub mod ProbeBelow
 pub mod Chain
 pub mod Estimable
 pub mod Round
+pub mod Governed

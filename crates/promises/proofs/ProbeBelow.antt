@@ -9,7 +9,7 @@ use lib.Ieee.Fits.{and-l}
 use Rattle.arith.specs.Floats.{f0, f1, minimumOf}
 use Rattle.arith.specs.Floats.Order.{le-trans}
 use Rattle.arith.specs.Floats.Clamp.{minimum-le}
-use Rattle.kinds.specs.Tuning.{f1·6}
+use Rattle.kinds.specs.Tuning.{readProtectEnterTablesProbed}
 use Rattle.candidate_faults.specs.Candidates.{inUnit}
 use Rattle.modes.specs.Mode.{soundOf, nextModeOf}
 use Rattle.pressure.specs.Sample.{fractionOf}
@@ -27,5 +27,5 @@ pub below-out : inUnit (reached 0 minusOne .read) ≡ false
 unfolding inUnit after observedOf observeFault acceptedOf countersFull soundOf nextModeOf signalsOf blendedOf componentsOf fractionOf smoothedOf ofInt ofBits lt le isNan sub add mul div
 below-out =
     let read : Bool = inUnit (reached 0 minusOne .read) in
-    let q : Float = div binary64 (smoothedOf f0 (ofBits binary64 0xbff0000000000000)) f1·6 in
+    let q : Float = div binary64 (smoothedOf f0 (ofBits binary64 0xbff0000000000000)) readProtectEnterTablesProbed in
     is-false read (not-T read (λ t. le-trans f0 (minimumOf q f1) q (and-l (le f0 (minimumOf q f1)) (le (minimumOf q f1) f1) t) (minimum-le q f1 refl refl .0)))

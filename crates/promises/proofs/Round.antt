@@ -31,7 +31,8 @@ use Rattle.decisions.specs.Decision.{chosenGood}
 use Rattle.decisions.specs.Decision.RoundTrip.{words-good}
 use Rattle.trace.specs.Laws.{decision-low, chosen-none, chosen-at, chosen-said}
 use Rattle.log.specs.Log.Newest.{add-refused, add-accepted, newest-kept, stays-good}
-use Rattle.promises.specs.Round.{RoundInput, vector, generated, asked, picked, decided, candidates, VectorGood, Says, Generates, Estimates, Round}
+use Rattle.promises.specs.Round.{RoundInput, vector, generated, asked, picked, decided, candidates, Says, Generates, Estimates, Round}
+use Rattle.promises.specs.Vector.{InUnits}
 use Rattle.promises.proofs.Chain.{chain}
 use Rattle.promises.proofs.Estimable.{estimable}
 
@@ -57,7 +58,7 @@ module _ (r : RoundInput) where
     reads : length (candidates r) ≡ length (madeOf (r .lent))
     reads = rw (words-read 0 (madeOf (r .lent))) (candidates-length 0 (madeOf (r .lent)))
 
-  module _ (v : VectorGood (vector r)) (e : Estimates r) where
+  module _ (v : InUnits (vector r)) (e : Estimates r) where
     estimation-fault : estimateFault (asked r) (r .estimateRoom) ≡ 0
     estimation-fault = sym (estimated-refusal (asked r) (r .estimateRoom)) ∙ e .1
 
@@ -83,7 +84,7 @@ module _ (r : RoundInput) where
         let said = chosen-said (c .kind) (c .level) (c .«batch_len») (fits-good c fits) in
         rw (chosen-at (vector r) (picked r) _ _ k w) (record { kind = said .0; level = said .1; «batch_len» = said .2 })
 
-pub round : (r : RoundInput) → VectorGood (vector r) → Round r
+pub round : (r : RoundInput) → InUnits (vector r) → Round r
 unfolding generateFault inputChecks
 round r v =
     record {

@@ -99,14 +99,14 @@ module _ (G : Tuning) (fraction : Signed false (G .enterFraction)) (probed : Sig
     pub vector-in-unit : InUnits vector
     vector-in-unit =
         let r = runs (freshOf clock) l (fresh clock) none in
-        record { l0 = in-unit _ (r .l0); deep = in-unit _ (r .deep); read = in-unit _ (r .read) }
+        record { l0 = in-unit _ (r .l0); «deep_debt» = in-unit _ (r .deep); read = in-unit _ (r .read) }
 
     -- whatever there is to choose from
     pub never-bad-vector : (f : FocusState) (cw ew : List ℕ) → ¬ (pickedOf vector f cw ew .refusal ≡ badVector)
     unfolding pickFault anyOf
     never-bad-vector f cw ew =
         let u = vector-in-unit in
-        rw (picked-refusal vector f cw ew) (never-gives badVector (pickChecks vector cw ew) (λ e. omega arith) (rw (u .l0, u .deep, u .read) refl))
+        rw (picked-refusal vector f cw ew) (never-gives badVector (pickChecks vector cw ew) (λ e. omega arith) (rw (u .l0, u .«deep_debt», u .read) refl))
 
 -- ---- with the source's numbers
 

@@ -5,7 +5,7 @@ use mathlib.Core.Bool.{true, false}
 use mathlib.Core.List.{List, [], _∷_, _++_, map, List·Memᴰ}
 use lib.Dec.{ltb}
 use lib.ListN.{length, drop}
-use Rattle.refusals.specs.Refusals.{_gives_, firstFault, none, tooLarge, tooMany, badRecord, badLevel, noRoom, badLog}
+use Rattle.refusals.specs.Refusals.{_gives_, firstFault, none, tooLarge, counterFull, tooMany, badRecord, badLevel, noRoom, badLog}
 use Rattle.kinds.specs.declared.vector.PressureVector.{PressureVector}
 use Rattle.kinds.specs.declared.tier.SelectionTier.the-variants.{None as NoTier}
 use Rattle.kinds.specs.declared.winner.Winner.the-variants.{None as NoWinner, At}
@@ -14,8 +14,8 @@ use Rattle.kinds.specs.declared.kind.ChosenKind.the-variants.{None as Nothing}
 use Rattle.kinds.specs.Numbers.{kindNumber, kindLevel, kindLength}
 use Rattle.records.specs.declared.candidate.Candidate.{Candidate}
 use Rattle.records.specs.Candidates.{candidatesOf, candidateAt}
-use Rattle.candidate_faults.specs.Candidates.{inUnit}
 use Rattle.state.specs.declared.GovernorState.{GovernorState}
+use Rattle.state.specs.declared.Observed.{Observed}
 use Rattle.candidates.specs.declared.Generated.{Generated}
 use Rattle.candidates.specs.Generate.{GenerateInput, madeOf, candidateWords, numberWords, generatedOf}
 use Rattle.candidates.specs.ReadBack.{offerIn}
@@ -74,12 +74,6 @@ module _ (r : RoundInput) where
   abbrev pub candidates : List Candidate
   candidates = candidatesOf (candidateWords (r .lent))
 
--- a vector as selection asks for it, each component in 0 to 1
-pub record VectorGood (v : PressureVector) : Type 0 where
-  pub l0 : inUnit (v .l0) ≡ true
-  pub «deep_debt» : inUnit (v .«deep_debt») ≡ true
-  pub read : inUnit (v .read) ≡ true
-
 -- a kind is the one that a candidate's words say
 pub record Says (c : Candidate) (k : ChosenKind) : Type 0 where
   pub kind : kindNumber k ≡ c .kind
@@ -121,3 +115,10 @@ pub record Round (r : RoundInput) : Type 0 where
   pub logged : LogGood r
       → keptWords (recorded r .log) (recordedIn r) ≡ drop (decisionWidth * (r .log .count + 1 - maxKept)) (keptWords (r .log) (r .words)) ++ decisionWords (numbered (decided r) (nextSequence (r .log)))
   pub good-again : LogGood r → logBad (recorded r .log) (length (recordedIn r)) ≡ false
+
+-- ---- and of every observation of a governor that was fresh, with the round that follows it
+
+pub record Governed (observed : Observed) (r : RoundInput) : Type 0 where
+  -- the observation refuses by 2 or 3, if at all
+  pub observation : List·Memᴰ (observed .refusal) (none ∷ tooLarge ∷ counterFull ∷ [])
+  pub round : Round r

@@ -10,7 +10,7 @@ use Rattle.promises.specs.Reading.{Observation, sampled, counted}
 
 pub record InUnits (v : PressureVector) : Type 0 where
   pub l0 : inUnit (v .l0) ≡ true
-  pub deep : inUnit (v .«deep_debt») ≡ true
+  pub «deep_debt» : inUnit (v .«deep_debt») ≡ true
   pub read : inUnit (v .read) ≡ true
 
 -- no probe value is a number below 0: a NaN, +infinity and -0 are none; an observation by the engine's counters brings no value, only counts
