@@ -1,7 +1,8 @@
 // What is written: bytes into a lent buffer, which goes to standard output when it is full, but for its last byte. A space stands behind each number and list, until the next byte takes its place or follows it.
 ghost use Prim.Native.Nat.{_≤_, _<_};
-use crate::words;
-use crate::words::WORDS;
+use rows_words::shape;
+use rows_words::words;
+use rows_words::words::WORDS;
 
 pub const OUT: usize = 65536;
 
@@ -10,7 +11,7 @@ pub fn flush(out: &[u8], end: usize) {
     io::write_all(1, words::cut(out, 0, end));
 }
 
-pub fn byte(out: &mut [u8; OUT], at: usize, b: u8) -> usize
+fn byte(out: &mut [u8; OUT], at: usize, b: u8) -> usize
     ensures { λ r. ⌜ r ≤ 65536 ⌝ }
 {
     if at < OUT {
@@ -31,7 +32,7 @@ fn close(out: &mut [u8; OUT], at: usize, b: u8) -> usize {
     0
 }
 
-pub fn text(out: &mut [u8; OUT], at: usize, s: &[u8]) -> usize {
+fn text(out: &mut [u8; OUT], at: usize, s: &[u8]) -> usize {
     let mut to = at;
     let mut i = 0;
     while i < s.len() {
@@ -82,8 +83,21 @@ fn argument(
     list(out, at, words::part(words, place))
 }
 
-// A line of the words of a shape (question::shape_with), as question::arguments reads them.
+fn fault(out: &mut [u8; OUT], at: usize, fault: u64) -> usize {
+    match fault {
+        shape::EMPTY => text(out, at, b"? empty\n"),
+        shape::ARGUMENTS => text(out, at, b"? arguments\n"),
+        shape::NAME => text(out, at, b"? name\n"),
+        shape::LONG => text(out, at, b"? long\n"),
+        _ => text(out, at, b"? number\n"),
+    }
+}
+
+// A line of the words of a shape, as question::arguments reads them, or of a fault.
 pub fn line(out: &mut [u8; OUT], at: usize, shape: u64, words: &[u64; WORDS]) -> usize {
+    if shape::FAULTS <= shape {
+        return fault(out, at, shape);
+    }
     let zeros = u64::leading_zeros(shape);
     if 62 < zeros {
         return at;

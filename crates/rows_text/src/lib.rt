@@ -1,5 +1,3 @@
 // The notation of questions and answers (docs/ROWS.md): a question's text as words, and an answer's words as text.
 pub mod answer;
-pub mod names;
 pub mod question;
-pub mod words;

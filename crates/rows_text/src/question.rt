@@ -1,26 +1,13 @@
 // A question's text: its name, and its arguments as words, a list as its count and then its elements.
-ghost use Prim.Native.Nat.{_≤_, _<_, _^_};
-use crate::words;
-use crate::words::WORDS;
+ghost use Prim.Native.Nat.{_<_};
+use rows_words::shape;
+use rows_words::words;
+use rows_words::words::WORDS;
 
-// The faults of a text stand where a place or a shape would.
-pub const NUMBER: usize = 0xffff_ffff_ffff_ffff;
+// A fault stands where a place would, too.
+const NUMBER: usize = shape::NUMBER as usize;
 
-pub const LONG: usize = 0xffff_ffff_ffff_fffe;
-
-// The first place of b, from a place on, or the end.
-pub fn find(s: &[u8], from: usize, b: u8) -> usize
-    ensures { λ r. ⌜ from ≤ r ⌝ }
-{
-    let mut i = from;
-    while i < s.len() {
-        if s[i] == b {
-            return i;
-        }
-        i += 1;
-    }
-    i
-}
+const LONG: usize = shape::LONG as usize;
 
 // A byte as a digit; 10 where it is none.
 fn digit(b: u8) -> u64 {
@@ -117,19 +104,6 @@ fn argument(line: &[u8], from: usize, kind: u64, args: &mut [u64; WORDS], at: us
     LONG
 }
 
-// The kinds of some arguments and of one more, in order, as binary digits behind a 1: 1 is a list, 0 a number. 0 stands for more than 62 arguments.
-pub fn shape_with(shape: u64, kind: u64) -> u64
-    ensures { λ r. ⌜ r < 2 ^ 63 ⌝ }
-{
-    if shape == 0 {
-        return 0;
-    }
-    if 0x3fff_ffff_ffff_ffff < shape {
-        return 0;
-    }
-    shape * 2 + kind % 2
-}
-
 // The arguments behind the name, each behind one space, go to the words; their shape is answered, or a fault.
 pub fn arguments(line: &[u8], name_end: usize, args: &mut [u64; WORDS]) -> u64 {
     let mut shape = 1;
@@ -137,7 +111,7 @@ pub fn arguments(line: &[u8], name_end: usize, args: &mut [u64; WORDS]) -> u64 {
     let mut at = name_end;
     while at < line.len() {
         if line[at] != b' ' {
-            return NUMBER as u64;
+            return shape::NUMBER;
         }
         let kind = (words::byte(line, at + 1) == b'[') as u64;
         let next = argument(line, at + 1, kind, args, count);
@@ -146,9 +120,9 @@ pub fn arguments(line: &[u8], name_end: usize, args: &mut [u64; WORDS]) -> u64 {
         }
         // It never is; the test spares a proof that the loop ends.
         if next <= at {
-            return NUMBER as u64;
+            return shape::NUMBER;
         }
-        shape = shape_with(shape, kind);
+        shape = shape::shape_with(shape, kind);
         count = words::after(args, count, kind);
         at = next;
     }

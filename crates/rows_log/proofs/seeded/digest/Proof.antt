@@ -1,0 +1,15 @@
+-- `rows_log::seeded::digest` is safe and ends: the place falls to the front. Assumes nothing.
+use lib.ListN.{length}
+use Prim.Native.Nat.{_≤_}
+use borrow.Author.Needs.{needs}
+use Rattle.rows_log.proofs.seeded.digest.Statement.{statement}
+use Rattle.rows_log.proofs.seeded.digest.Tie as tie
+
+abbrev Inv-loop : tie.InvT-loop
+Inv-loop words sum₀ total₀ i₀ sum total i = i ≤ length words
+
+abbrev μ-loop : tie.MeasureT-loop
+μ-loop words sum₀ total₀ i₀ sum total i = i
+
+pub digest-spec : {M : Type 1} → statement M
+digest-spec = tie.close (tie.spec Inv-loop μ-loop (search needs) (search needs) (search needs) (search needs) (search needs) (search needs) (search needs) (search needs) (search needs))

@@ -1,0 +1,174 @@
+// The calls of candidates, estimates, choice and the decision that a choice leads to.
+ghost use Prim.Native.Nat.{_≤_};
+use arith::floats;
+use candidates::Generated;
+use candidates::generate_candidates;
+use choice::Picked;
+use estimates::Estimated;
+use kinds::tier::SelectionTier;
+use kinds::winner::Winner;
+use records::candidate::CandidateEstimate;
+use rows_state::states;
+use rows_state::states::float;
+use rows_words::words;
+use rows_words::words::WORDS;
+use scores::score;
+
+// ---- candidates
+
+// The candidates go to the words from 4 up to an end, and the numbers to others from 1 on.
+fn generated(
+    args: &[u64; WORDS],
+    bytes: &[u8],
+    out: &mut [u64],
+    end: usize,
+    numbers: &mut [u64],
+    last: usize,
+) -> Generated {
+    let second = words::after(args, 0, 1);
+    let trigger = words::after(args, second, 1);
+    generate_candidates(
+        words::part(args, 0),
+        words::cut(bytes, 0, words::word(args, second) as usize),
+        words::word(args, trigger),
+        words::part(args, trigger + 1),
+        words::room(out, 4, end),
+        words::room(numbers, 1, last),
+    )
+}
+
+fn put_candidates(
+    args: &[u64; WORDS],
+    bytes: &[u8],
+    numbers: &mut [u64; WORDS],
+    out: &mut [u64; WORDS],
+) {
+    let over = words::after(args, words::after(args, 0, 1), 1) + 1;
+    let fifth = words::after(args, over, 1);
+    let end = words::put_list(out, 3, words::part(args, fifth));
+    let last = words::put_list(numbers, 0, words::part(args, words::after(args, fifth, 1)));
+    let g = generated(args, bytes, out, end, numbers, last);
+    out[0] = g.refusal;
+    out[1] = g.candidates as u64;
+    out[2] = g.numbers as u64;
+    words::put_list(out, end, words::part(numbers, 0));
+}
+
+// ---- estimates
+
+// The estimates go to the words from 3 up to an end.
+fn estimated(
+    args: &[u64; WORDS],
+    next: usize,
+    fourth: usize,
+    out: &mut [u64],
+    end: usize,
+) -> Estimated
+    requires { ⌜ next ≤ 262143 ⌝ }
+{
+    estimates::estimate_candidates(
+        words::part(args, 0),
+        words::word(args, next),
+        words::part(args, next + 1),
+        words::part(args, fourth),
+        words::part(args, words::after(args, fourth, 1)),
+        words::room(out, 3, end),
+    )
+}
+
+fn put_estimates(args: &[u64; WORDS], out: &mut [u64; WORDS]) {
+    let next = words::after(args, 0, 1);
+    let fourth = words::after(args, next + 1, 1);
+    let last = words::after(args, words::after(args, fourth, 1), 1);
+    let end = words::put_list(out, 2, words::part(args, last));
+    let e = estimated(args, next, fourth, out, end);
+    out[0] = e.refusal;
+    out[1] = e.estimates as u64;
+}
+
+// ---- choice
+
+fn estimate_at(args: &[u64; WORDS]) -> CandidateEstimate {
+    CandidateEstimate {
+        input_bytes: args[3],
+        overlap_bytes: args[4],
+        estimated_rewrite_bytes: args[5],
+        debt_relief_bytes: args[6],
+        l0_files_removed: args[7],
+        age: args[8],
+        l0_relief: float(args, 9),
+        debt_relief: float(args, 10),
+        read_relief: float(args, 11),
+    }
+}
+
+fn winner_words(winner: Winner) -> [u64; 2] {
+    match winner {
+        Winner::None => [0, 0],
+        Winner::At(place) => [1, place as u64],
+    }
+}
+
+fn put_picked(args: &[u64; WORDS], out: &mut [u64; WORDS]) {
+    let p = choice::pick_best_cause_aware(
+        states::vector_at(args, 0),
+        states::focus_at(args, 3),
+        words::part(args, 6),
+        words::part(args, words::after(args, 6, 1)),
+    );
+    let winner = p.winner;
+    let tier = p.tier;
+    out[0] = p.refusal;
+    words::put_all(out, 1, &winner_words(winner));
+    words::put_all(out, 3, &states::focus_words(p.focus));
+    out[6] = tier.number();
+}
+
+// ---- the decision
+
+fn winner_of(won: u64, place: u64) -> Winner {
+    if won == 0 {
+        return Winner::None;
+    }
+    Winner::At(place as usize)
+}
+
+fn tier_of(n: u64) -> SelectionTier {
+    match n {
+        0 => SelectionTier::None,
+        1 => SelectionTier::L0,
+        2 => SelectionTier::FocusContinued,
+        _ => SelectionTier::FocusReselected,
+    }
+}
+
+fn put_decision(args: &[u64; WORDS], out: &mut [u64; WORDS]) {
+    let d = trace::scheduling_decision(
+        states::vector_of(args[0], args[1], args[2]),
+        Picked {
+            refusal: args[3],
+            winner: winner_of(args[4], args[5]),
+            focus: states::focus_of(args[6], args[7], args[8]),
+            tier: tier_of(args[9]),
+        },
+        words::part(args, 10),
+        words::part(args, words::after(args, 10, 1)),
+    );
+    words::put_list(out, 0, &decisions::to_words(d));
+}
+
+pub fn put_answer(call: u64, args: &[u64; WORDS], bytes: &[u8], out: &mut [u64; WORDS]) {
+    match call {
+        29 => {
+            let mut numbers = [0u64; WORDS];
+            put_candidates(args, bytes, &mut numbers, out);
+        }
+        46 => put_estimates(args, out),
+        47 => {
+            let vector = states::vector_at(args, 0);
+            out[0] = floats::to_bits(score::cause_aware_score(vector, estimate_at(args)));
+        }
+        48 => put_picked(args, out),
+        _ => put_decision(args, out),
+    }
+}

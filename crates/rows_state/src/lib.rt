@@ -1,0 +1,5 @@
+// The calls of arith, kinds, state, pressure, governor and report.
+pub mod arithmetic;
+pub mod governed;
+mod lent;
+pub mod states;

@@ -1,0 +1,147 @@
+// A governor's state as the 27 words of a list, which a question has at its front.
+use arith::floats;
+use kinds::focus::FocusLevel;
+use kinds::focus::FocusState;
+use kinds::mode::GovernorMode;
+use kinds::vector::PressureVector;
+use rows_words::words;
+use rows_words::words::WORDS;
+use state::Counters;
+use state::GovernorState;
+use state::Signals;
+use state::Streaks;
+use state::Times;
+use state::Window;
+
+pub fn float(args: &[u64; WORDS], at: usize) -> f64 {
+    floats::of_bits(words::word(args, at))
+}
+
+// The low 32 bits of a word.
+pub(crate) fn small(args: &[u64; WORDS], at: usize) -> u32 {
+    (words::word(args, at) % 0x1_0000_0000) as u32
+}
+
+pub(crate) fn mode_of(n: u64) -> GovernorMode {
+    match n {
+        0 => GovernorMode::Balanced,
+        1 => GovernorMode::ReadProtect,
+        _ => GovernorMode::WriteEmergency,
+    }
+}
+
+// The focus whose flag, level and streak stand from a place on.
+pub fn focus_at(args: &[u64; WORDS], at: usize) -> FocusState {
+    let streak = small(args, std::num::wrapping_add_usize(at, 2));
+    if words::word(args, at) == 0 {
+        return FocusState {
+            current_focus: FocusLevel::None,
+            streak,
+        };
+    }
+    let level = small(args, std::num::wrapping_add_usize(at, 1));
+    FocusState {
+        current_focus: FocusLevel::Level(level),
+        streak,
+    }
+}
+
+pub fn focus_words(focus: FocusState) -> [u64; 3] {
+    let level = focus.current_focus;
+    match level {
+        FocusLevel::None => [0, 0, focus.streak as u64],
+        FocusLevel::Level(n) => [1, n as u64, focus.streak as u64],
+    }
+}
+
+// The vector whose floats stand from a place on.
+pub fn vector_at(args: &[u64; WORDS], at: usize) -> PressureVector {
+    PressureVector {
+        l0: float(args, at),
+        deep_debt: float(args, std::num::wrapping_add_usize(at, 1)),
+        read: float(args, std::num::wrapping_add_usize(at, 2)),
+    }
+}
+
+pub(crate) fn vector_words(v: PressureVector) -> [u64; 3] {
+    [
+        floats::to_bits(v.l0),
+        floats::to_bits(v.deep_debt),
+        floats::to_bits(v.read),
+    ]
+}
+
+pub(crate) fn state(args: &[u64; WORDS]) -> GovernorState {
+    GovernorState {
+        mode: mode_of(args[1]),
+        signals: Signals {
+            tables_probed_ewma: float(args, 2),
+            pressure_ewma: float(args, 3),
+            last_pressure: float(args, 4),
+            debt_ewma: float(args, 5),
+            pressure_vector: vector_at(args, 6),
+        },
+        focus: focus_at(args, 9),
+        streaks: Streaks {
+            enter_read_protect: small(args, 12),
+            exit_read_protect: small(args, 13),
+            exit_emergency: small(args, 14),
+        },
+        times: Times {
+            balanced: args[15],
+            read_protect: args[16],
+            write_emergency: args[17],
+            last_transition: args[18],
+        },
+        window: Window {
+            last_probed: args[19],
+            last_resolved: args[20],
+        },
+        counters: Counters {
+            mode_switches: args[21],
+            batch_size_sum: args[22],
+            batch_size_count: args[23],
+            trivial_moves_performed: args[24],
+            trivial_move_bytes_avoided: args[25],
+            predicted_actual_abs_pct_error_sum: float(args, 26),
+            predicted_actual_samples: args[27],
+        },
+    }
+}
+
+// The list of a state's words goes to a place.
+pub(crate) fn put_state(out: &mut [u64; WORDS], at: usize, s: GovernorState) {
+    let v = vector_words(s.signals.pressure_vector);
+    let focus = focus_words(s.focus);
+    let mode = s.mode;
+    let list = [
+        mode.idx(),
+        floats::to_bits(s.signals.tables_probed_ewma),
+        floats::to_bits(s.signals.pressure_ewma),
+        floats::to_bits(s.signals.last_pressure),
+        floats::to_bits(s.signals.debt_ewma),
+        v[0],
+        v[1],
+        v[2],
+        focus[0],
+        focus[1],
+        focus[2],
+        s.streaks.enter_read_protect as u64,
+        s.streaks.exit_read_protect as u64,
+        s.streaks.exit_emergency as u64,
+        s.times.balanced,
+        s.times.read_protect,
+        s.times.write_emergency,
+        s.times.last_transition,
+        s.window.last_probed,
+        s.window.last_resolved,
+        s.counters.mode_switches,
+        s.counters.batch_size_sum,
+        s.counters.batch_size_count,
+        s.counters.trivial_moves_performed,
+        s.counters.trivial_move_bytes_avoided,
+        floats::to_bits(s.counters.predicted_actual_abs_pct_error_sum),
+        s.counters.predicted_actual_samples,
+    ];
+    words::put_list(out, at, &list);
+}
