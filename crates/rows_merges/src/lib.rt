@@ -144,11 +144,11 @@ fn tier_of(n: u64) -> SelectionTier {
 
 fn put_decision(args: &[u64; WORDS], out: &mut [u64; WORDS]) {
     let d = trace::scheduling_decision(
-        states::vector_of(args[0], args[1], args[2]),
+        states::vector_at(args, 0),
         Picked {
             refusal: args[3],
             winner: winner_of(args[4], args[5]),
-            focus: states::focus_of(args[6], args[7], args[8]),
+            focus: states::focus_at(args, 6),
             tier: tier_of(args[9]),
         },
         words::part(args, 10),
