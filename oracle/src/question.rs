@@ -1,4 +1,4 @@
-//! A question to the port: a name and its arguments, in the notation of docs/ANSWERS.md.
+//! A question to the port: a name and its arguments, in the notation of docs/ROWS.md.
 
 use std::fmt;
 

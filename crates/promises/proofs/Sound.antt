@@ -1,5 +1,5 @@
 -- From a fresh governor refusal 1 never occurs: whatever was done before, each mode's own streak stays below its window and the others stay 0.
-use Prim.Native.Nat.{ℕ, _-_, _^_, _<_}
+use Prim.Native.Nat.{ℕ, _<_}
 use native.Mathlib.Omega.{arith}
 use mathlib.Core.Path.{_≡_, refl}
 use mathlib.Core.Bool.{Bool, true, false, not, _&&_}
@@ -7,8 +7,7 @@ use mathlib.Core.List.{List, [], _∷_}
 use lib.Dec.{T, ltb, eqb, lt→ltb}
 use lib.Ieee.Fits.{and-i, and-r}
 use Rattle.lists.specs.Any.{anyOf}
-use Rattle.counts.specs.Counts.{anyLarge}
-use Rattle.refusals.specs.Refusals.{Check, _gives_, firstFault, badState, tooLarge, counterFull}
+use Rattle.refusals.specs.Refusals.{Check, firstFault, badState}
 use Rattle.refusals.specs.Checks.{never-gives}
 use Rattle.state.specs.declared.GovernorState.{GovernorState}
 use Rattle.kinds.specs.declared.mode.GovernorMode.{GovernorMode}
@@ -18,13 +17,12 @@ use Rattle.modes.specs.declared.NextMode.{NextMode}
 use Rattle.kinds.specs.declared.kind.CandidateKind.the-variants.{L0, LevelBatch, TrivialMove}
 use Rattle.kinds.specs.Tuning.{Tuning, source}
 use Rattle.state.specs.State.{freshOf}
-use Rattle.state.specs.Clock.{timeUpTo}
 use Rattle.modes.specs.Mode.{switched, soundOf}
 use Rattle.pressure.specs.Pressure.{probedOf}
 use Rattle.governor.specs.Observe.{acceptedOf, observeChecks, observeFault, observedOf}
 use Rattle.governor.specs.Engine.{sampleOf, engineChecks, engineFault, engineOf}
 use Rattle.report.specs.Counters.{chosenOf, moveChecks, moveFault, trivialMoveOf, outcomeChecks, outcomeFault, outcomeOf}
-use Rattle.report.specs.Snapshot.{snapshotFault}
+use Rattle.report.specs.Snapshot.{snapshotChecks, snapshotFault}
 use Rattle.promises.specs.Reading.{Observation, sampled, counted, Seen, seenOf}
 use Rattle.promises.specs.Calls.{Action, observe, move, outcome, choose, focus, snapshot, answerOf, acted, after}
 use Rattle.promises.proofs.Thresholds.{source-apart}
@@ -40,13 +38,6 @@ silent cs q = never-gives badState cs (λ e. omega arith) q
 -- a sound state's first check finds nothing
 first-quiet : (sound : Bool) → T sound → eqb badState badState && not sound ≡ false
 first-quiet true t = refl
-
--- 2, 3: a snapshot's checks
-abbrev snapshotChecks : GovernorState → ℕ → List Check
-snapshotChecks s now =
-    anyLarge (s .counters .«batch_size_sum») (s .counters .«batch_size_count») (s .counters .«predicted_actual_samples») gives tooLarge
-    ∷ ltb (2 ^ 64 - 1) (timeUpTo (s .mode) (s .times) now) gives counterFull
-    ∷ []
 
 module _ (G : Tuning) (exits : 0 < G .exitEmergency) (enters : 0 < G .enterReadProtect) (leaves : 0 < G .exitReadProtect) where
   abbrev Sound : NextMode → Type 0

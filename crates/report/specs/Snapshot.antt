@@ -6,7 +6,7 @@ use lib.Dec.{ltb, eqb}
 use lib.Ieee.{Float, binary64, toBits, div}
 use Rattle.arith.specs.Whole.{floatOf}
 use Rattle.counts.specs.Counts.{anyLarge}
-use Rattle.refusals.specs.Refusals.{_gives_, firstFault, none, tooLarge, counterFull}
+use Rattle.refusals.specs.Refusals.{Check, _gives_, firstFault, none, tooLarge, counterFull}
 use Rattle.kinds.specs.Numbers.{modeNumber}
 use Rattle.state.specs.declared.GovernorState.{GovernorState}
 use Rattle.state.specs.declared.Times.{Times}
@@ -17,12 +17,14 @@ use Rattle.arith.specs.Floats.{f0}
 use Rattle.state.specs.Clock.{timeUpTo, timesOf}
 
 -- 2, 3
-unfoldable pub snapshotFault : GovernorState → ℕ → ℕ
-snapshotFault s now =
-    firstFault
-    (anyLarge (s .counters .«batch_size_sum») (s .counters .«batch_size_count») (s .counters .«predicted_actual_samples») gives tooLarge
+abbrev pub snapshotChecks : GovernorState → ℕ → List Check
+snapshotChecks s now =
+    anyLarge (s .counters .«batch_size_sum») (s .counters .«batch_size_count») (s .counters .«predicted_actual_samples») gives tooLarge
     ∷ ltb (2 ^ 64 - 1) (timeUpTo (s .mode) (s .times) now) gives counterFull
-    ∷ [])
+    ∷ []
+
+unfoldable pub snapshotFault : GovernorState → ℕ → ℕ
+snapshotFault s now = firstFault (snapshotChecks s now)
 
 abbrev pub meanOf : Float → ℕ → Float
 meanOf sum count = cond (eqb count 0) f0 (div binary64 sum (floatOf count))

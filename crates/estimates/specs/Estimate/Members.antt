@@ -1,4 +1,4 @@
--- Which tables an estimate speaks of: those that a number is looked up as, and those of a level, are tables of the list. So bytes are sums over tables of the list, and sizes bound them.
+-- Which tables an estimate speaks of: those that a number is looked up as, and those of a level, are tables of the list. So sizes bound their bytes.
 use mathlib.Core.Path.{_≡_, refl}
 use mathlib.Core.Logic.{⊎-elim}
 use mathlib.Core.Bool.{Bool, true, false, not, cond}
@@ -36,9 +36,6 @@ matched-among ts (n ∷ ns) t m = ⊎-elim (lookup-among n ts t) (matched-among 
 pub at-among : (level : ℕ) (ts : List Table) → Among ts (atLevel level ts)
 at-among level ts t m = filter-in (λ u. eqb (u .level) level) ts t m .0
 
-pub off-among : (level : ℕ) (ts : List Table) → Among ts (offLevel level ts)
-off-among level ts t m = filter-in (λ u. not (eqb (u .level) level)) ts t m .0
-
 -- no more tables than numbers
 lookup-small : (ts : List Table) (n : ℕ) → length (lookup ts n) ≤ 1
 unfolding lookup
@@ -57,18 +54,6 @@ level-and-rest level (t ∷ ts) = go (eqb (t .level) level) (level-and-rest leve
         → bytesOf (cond b (t ∷ atLevel level ts) (atLevel level ts)) + bytesOf (cond (not b) (t ∷ offLevel level ts) (offLevel level ts)) ≡ t .size + bytesOf ts
     go true h = omega arith
     go false h = omega arith
-
--- ---- sums and counts over tables of the list
-
-pub record SumOver (ts : List Table) (n : ℕ) : Type 0 where
-  pub some : List Table
-  pub among : Among ts some
-  pub sum : n ≡ bytesOf some
-
-pub record CountOver (ts : List Table) (n : ℕ) : Type 0 where
-  pub some : List Table
-  pub among : Among ts some
-  pub count : n ≡ length some
 
 -- ---- sizes
 
