@@ -1,6 +1,7 @@
 //! The choice and the score. Compared with the copy that takes the port's logarithm, timed beside the one that keeps its own.
 use crate::clocked;
 use crate::data::Dice;
+use crate::decisions::to_words;
 use crate::original;
 use crate::port::*;
 use crate::rows::{Bench, bits, same};
@@ -113,6 +114,31 @@ fn compared(v: [f64; 3], f: [u64; 3], offers: &[Offer]) {
     same("cause_aware_score", &scores.iter().map(|x| bits(*x)).collect::<Vec<_>>(), &want);
 }
 
+/// The decision of a choice, as the original's caller fills it in.
+fn decision(v: [f64; 3], place: usize, anew: bool, pairs: &[(original::Candidate, original::CandidateEstimate)]) -> original::SchedulingDecision {
+    let pressure = original::PressureVector { l0: v[0], deep_debt: v[1], read: v[2] };
+    let (c, e) = &pairs[place];
+    original::SchedulingDecision {
+        sequence: 0,
+        pressure,
+        dominant: pressure.dominant(),
+        tier: if anew { original::SelectionTier::FocusReselected } else { original::SelectionTier::FocusContinued },
+        candidates_considered: pairs.len(),
+        chosen: Some(c.kind.into()),
+        predicted_rewrite_bytes: e.estimated_rewrite_bytes,
+        l0_relief: e.l0_relief,
+        debt_relief: e.debt_relief,
+        read_relief: e.read_relief,
+    }
+}
+
+fn compared_decision(v: [f64; 3], place: usize, anew: bool, offers: &[Offer]) {
+    let (candidates, estimates) = words(offers);
+    let mut out = [0u64; 14];
+    port_decision(&lent(&v), place as u64, anew as u64, &lent(&candidates), &lent(&estimates), &lent_mut(&mut out));
+    same("scheduling_decision", &out, &to_words(&decision(v, place, anew, &pairs(offers))));
+}
+
 pub const VECTOR: [f64; 3] = [0.1, 0.7, 0.2];
 
 pub fn run(b: &mut Bench) {
@@ -120,7 +146,11 @@ pub fn run(b: &mut Bench) {
     for _ in 0..2000 {
         let v = [d.below(3) as f64 / 2.0, d.unit(), [0.0, 0.25, 1.0][d.below(3) as usize]];
         let f = [d.below(2), d.below(4), d.below(5)];
-        compared(v, [f[0], f[0] * f[1], f[2]], &tied(&mut d));
+        let offers = tied(&mut d);
+        compared(v, [f[0], f[0] * f[1], f[2]], &offers);
+        if !offers.is_empty() {
+            compared_decision(v, d.below(offers.len() as u64) as usize, d.below(2) == 1, &offers);
+        }
     }
     for (name, l0, f) in [
         ("pick_best_cause_aware, no focus", false, [0, 0, 0]),
@@ -144,8 +174,17 @@ pub fn run(b: &mut Bench) {
     }
     let offers = plain(145, false, 4);
     compared(VECTOR, [0; 3], &offers);
-    let (_, estimates) = words(&offers);
+    compared_decision(VECTOR, 100, true, &offers);
+    let (candidates, estimates) = words(&offers);
     let pairs = pairs(&offers);
+    let mut out = [0u64; 14];
+    b.row(
+        "scheduling_decision",
+        0,
+        1,
+        &mut || port_decision(&lent(&VECTOR), 100, 1, &lent(&candidates), &lent(&estimates), &lent_mut(&mut out)),
+        &mut || _ = black_box(to_words(&decision(black_box(VECTOR), black_box(100), true, black_box(&pairs)))),
+    );
     let (mut ours, mut theirs) = (vec![0.0f64; 145], vec![0.0f64; 145]);
     b.row("cause_aware_score", 0, 145, &mut || port_score(&lent(&VECTOR), &lent(&estimates), &lent_mut(&mut ours)), &mut || {
         let v = black_box(original::PressureVector { l0: VECTOR[0], deep_debt: VECTOR[1], read: VECTOR[2] });

@@ -10,7 +10,7 @@ const TIERS: [SelectionTier; 4] = [SelectionTier::None, SelectionTier::L0, Selec
 const KEPT: usize = 4096;
 
 /// The port's layout in plain Rust, which has none.
-fn to_words(d: &SchedulingDecision) -> [u64; 14] {
+pub fn to_words(d: &SchedulingDecision) -> [u64; 14] {
     let (kind, level, length) = match d.chosen {
         None => (0, 0, 0),
         Some(ChosenKind::L0) => (1, 0, 0),

@@ -55,6 +55,7 @@ unsafe extern "C" {
     pub safe fn port_generate(tables: &Lent, keys: &Lent, trigger: u64, over: &Lent, candidates: &Lent, numbers: &Lent, counts: &Lent) -> u64;
     pub safe fn port_estimate(tables: &Lent, next: u64, over: &Lent, candidates: &Lent, numbers: &Lent, estimates: &Lent, counts: &Lent) -> u64;
     pub safe fn port_pick(vector: &Lent, focus: &Lent, candidates: &Lent, estimates: &Lent, out: &Lent);
+    pub safe fn port_decision(vector: &Lent, place: u64, anew: u64, candidates: &Lent, estimates: &Lent, out: &Lent);
     pub safe fn port_score(vector: &Lent, estimates: &Lent, out: &Lent);
 
     pub safe fn port_fresh(g: &mut Governor, clock: u64);

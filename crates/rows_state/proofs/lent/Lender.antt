@@ -1,4 +1,4 @@
--- One law for each function that lends a state of its own to a thin function over a state behind a `&mut` (governor's `proofs/Thin.antt`), of the shape
+-- One law for each function that lends a state of its own to a thin function over a state behind a `&mut` (report's `proofs/Thin.antt`), of the shape
 --     fn NAME(mut g: STATE, ..) -> ANSWER { let refusal = CALLEE(&mut g, ..); ANSWER { refusal, state: g } }
 -- with any list of parameters of plain data after the first, whose contract says that the answer's two fields are what the callee's function of `specs/` gives. It walks the function's MIR: a lifetime is made for the call, the state is lent for it, and taken back at its last value. A proof cites `lender-meets`.
 -- Assumes nothing.
