@@ -14,7 +14,8 @@ use Rattle.records.specs.Tables.{tablesOf, entriesOf}
 use Rattle.records.specs.Candidates.{candidatesOf, estimatesOf, noCandidate}
 use Rattle.candidate_faults.specs.Candidates.{estimateOut}
 use Rattle.estimates.specs.Estimate.{estimateOf}
-use Rattle.estimates.specs.Estimate.Call.{EstimateInput, estimateWords, estimateFault}
+use Rattle.estimate_faults.specs.Faults.{EstimateInput, estimateFault}
+use Rattle.estimates.specs.Estimate.Call.{estimateWords}
 use Rattle.estimates.specs.Estimate.Accepted.{Sound, Accepted, accepted, words-long}
 use Rattle.choice.specs.Choice.Call.{vectorBad, pickFault}
 use Rattle.estimates.specs.Estimate.Range.{estimate-in-range}

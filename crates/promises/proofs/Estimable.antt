@@ -16,7 +16,7 @@ use Rattle.candidates.specs.Candidates.{Offer}
 use Rattle.candidates.specs.Generate.{GenerateInput, numbersIn, madeOf, candidateWords, generateFault}
 use Rattle.candidates.specs.Accepted.{accepted}
 use Rattle.candidates.specs.Bounds.{words-length}
-use Rattle.estimates.specs.Estimate.Call.{estimateFault}
+use Rattle.estimate_faults.specs.Faults.{estimateFault}
 use Rattle.promises.specs.Rows.{estimating}
 use Rattle.candidates.specs.ReadBack.{candidateOf, candidatesFrom, words-read, candidates-length, candidate-in}
 use Rattle.candidates.specs.Offered.{Proper, l0, batch, move, EachOffered, made-offered, made-few}

@@ -19,7 +19,8 @@ use Rattle.candidate_faults.specs.Candidates.{fitsKind, candidateBroken}
 use Rattle.candidates.specs.Generate.{madeOf, candidateWords, inputChecks, shortOf, generateFault}
 use Rattle.candidates.specs.Accepted.{generated-refusal, generated-count}
 use Rattle.candidates.specs.ReadBack.{offers-back, words-read, candidates-length}
-use Rattle.estimates.specs.Estimate.Call.{estimateWords, estimateFault}
+use Rattle.estimate_faults.specs.Faults.{estimateFault}
+use Rattle.estimates.specs.Estimate.Call.{estimateWords}
 use Rattle.estimates.specs.Estimate.Accepted.{accepted, estimated-refusal}
 use Rattle.choice.specs.declared.Picked.{Picked}
 use Rattle.choice.specs.Choice.{noFocus, answerOf}

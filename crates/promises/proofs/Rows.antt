@@ -29,7 +29,8 @@ use Rattle.writers.specs.Writers.{mergedOf}
 use Rattle.candidates.specs.Candidates.{l0Offers, batchOf, moveOffers, levelOffers, overOffers, offersOf}
 use Rattle.candidates.specs.Generate.{wordsFrom, numbersIn, inputChecks, generateFault, generatedOf}
 use Rattle.estimates.specs.Estimate.{lookup, bytesOf, oldestFrom, oldestOf, firstShare, estimateOf}
-use Rattle.estimates.specs.Estimate.Call.{estimateFault, estimatedOf}
+use Rattle.estimate_faults.specs.Faults.{estimateFault}
+use Rattle.estimates.specs.Estimate.Call.{estimatedOf}
 use Rattle.scores.specs.Score.{benefitOf, scoreOf}
 use Rattle.scores.specs.Choices.{choicesFrom, lastFrom, lastBest}
 use Rattle.choice.specs.Choice.{yields, bestWithin, reselectedBy, focused, firstOr, choiceOf}

@@ -10,7 +10,8 @@ use Rattle.candidates.specs.declared.Generated.{Generated}
 use Rattle.candidates.specs.Bounds.{words-length}
 use Rattle.candidates.specs.Accepted.{generated-refusal, generated-count}
 use Rattle.candidates.specs.Generate.{GenerateInput, Answered, madeOf, candidateWords, numberWords, generateFault, frontOf}
-use Rattle.estimates.specs.Estimate.Call.{EstimateInput, estimateWords, estimateFault, estimatedOf, estimatesOut}
+use Rattle.estimate_faults.specs.Faults.{EstimateInput, estimateFault}
+use Rattle.estimates.specs.Estimate.Call.{estimateWords, estimatedOf, estimatesOut}
 use Rattle.estimates.specs.Estimate.Accepted.{estimated-refusal, words-long}
 
 -- a buffer's first n words were written, and no other

@@ -20,7 +20,8 @@ use Rattle.candidates.specs.declared.Generated.{Generated}
 use Rattle.candidates.specs.Generate.{GenerateInput, madeOf, candidateWords, numberWords, generatedOf}
 use Rattle.candidates.specs.ReadBack.{offerIn}
 use Rattle.estimates.specs.declared.Estimated.{Estimated}
-use Rattle.estimates.specs.Estimate.Call.{EstimateInput, estimateWords, estimatedOf}
+use Rattle.estimate_faults.specs.Faults.{EstimateInput}
+use Rattle.estimates.specs.Estimate.Call.{estimateWords, estimatedOf}
 use Rattle.choice.specs.declared.Picked.{Picked}
 use Rattle.choice.specs.Choice.{noFocus, answerOf}
 use Rattle.choice.specs.Choice.Call.{pickedOf}

@@ -15,7 +15,8 @@ use Rattle.state.specs.State.{freshOf}
 use Rattle.pressure.specs.Pacing.{pacingOf}
 use Rattle.kinds.specs.Vector.{dominantOf}
 use Rattle.candidates.specs.Generate.{generateInput, GenerateInput, candidateWords, numberWords, generatedOf}
-use Rattle.estimates.specs.Estimate.Call.{estimateInput, EstimateInput, estimateWords, estimatedOf}
+use Rattle.estimate_faults.specs.Faults.{estimateInput, EstimateInput}
+use Rattle.estimates.specs.Estimate.Call.{estimateWords, estimatedOf}
 use Rattle.choice.specs.declared.Picked.{Picked}
 use Rattle.choice.specs.Choice.{noFocus}
 use Rattle.choice.specs.Choice.Call.{pickedOf}

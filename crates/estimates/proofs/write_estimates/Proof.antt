@@ -1,7 +1,8 @@
 -- `estimates::write_estimates` meets its contract.
 use Rattle.lists.specs.Flat.{flat-more, flat-end}
 use Rattle.estimates.specs.Estimate.{estimateOf, nineWords}
-use Rattle.estimates.specs.Estimate.Call.{estimateInput, estimateWordsOf, estimateWords}
+use Rattle.estimate_faults.specs.Faults.{estimateInput}
+use Rattle.estimates.specs.Estimate.Call.{estimateWordsOf, estimateWords}
 use Rattle.records.specs.Candidates.{candidatesOf, candidateAt, noCandidate}
 use Rattle.lists.specs.Writes.{Filling, fill-start, fill-part, fill-end}
 use Rattle.records.specs.Tables.{tablesOf, entriesOf}

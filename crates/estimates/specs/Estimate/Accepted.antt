@@ -18,7 +18,8 @@ use Rattle.records.specs.Candidates.{candidatesOf, candidateAt, noCandidate}
 use Rattle.candidate_faults.specs.Candidates.{tooManyCandidates, tooManyNumbers, numbersOut, brokenCandidates}
 use Rattle.estimates.specs.declared.Estimated.{Estimated}
 use Rattle.estimates.specs.Estimate.{estimateOf, nineWords}
-use Rattle.estimates.specs.Estimate.Call.{EstimateInput, estimateWords, estimateChecks, estimateFault, estimatedOf}
+use Rattle.estimate_faults.specs.Faults.{EstimateInput, estimateChecks, estimateFault}
+use Rattle.estimates.specs.Estimate.Call.{estimateWords, estimatedOf}
 use Rattle.lists.specs.Flat.{flat-length}
 use Rattle.refusals.specs.Refusals.{none}
 use Rattle.refusals.specs.Checks.{none-found}

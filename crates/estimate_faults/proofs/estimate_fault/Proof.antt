@@ -1,13 +1,13 @@
--- `estimates::estimate_fault` meets its contract.
-use Rattle.estimates.specs.Estimate.Call.{estimateFault}
+-- `estimate_faults::estimate_fault` meets its contract.
+use Rattle.estimate_faults.specs.Faults.{estimateFault}
 use Rattle.records.specs.Candidates.{candidatesOf}
 use borrow.Author.Tests.{lt-ltb, le-ltb}
 use denote.Ref.{now}
 use lib.ListN.{length}
 use Prim.Native.Nat.{_*_, _≤_, _<_}
 use native.Mathlib.Omega.{arith}
-use Rattle.estimates.proofs.estimate_fault.Statement.{statement}
-use Rattle.estimates.proofs.estimate_fault.Tie as tie
+use Rattle.estimate_faults.proofs.estimate_fault.Statement.{statement}
+use Rattle.estimate_faults.proofs.estimate_fault.Tie as tie
 
 too-many-requires : tie.Need-too-many-requires
 too-many-requires c κs = tt

@@ -1,0 +1,2 @@
+-- What `estimate_candidates` refuses.
+pub mod Faults

@@ -1,0 +1,50 @@
+// What `estimate_candidates` refuses, as the number of the refusal; 0 where nothing is wrong.
+ghost use mathlib.Core.Path.{_≡_};
+ghost use lib.ListN.{length};
+ghost use Rattle.estimate_faults.specs.Faults.{estimateInput, tooManyInputs, brokenInputs, estimateFault};
+use records::candidate;
+
+// The call's checks, in 01's order: 4, 5, 6, 2, 9. The room is the length of the output buffer.
+pub fn estimate_fault(
+    tables: &[u64],
+    next: u64,
+    over: &[u64],
+    candidates: &[u64],
+    numbers: &[u64],
+    room: usize,
+) -> u64
+    ensures { λ r. ⌜ r ≡ estimateFault (estimateInput (now (tables .entry)) next (now (over .entry)) (now (candidates .entry)) (now (numbers .entry))) room ⌝ }
+{
+    if too_many(tables, over, candidates) {
+        return refusals::TOO_MANY;
+    }
+    if broken(tables, over, candidates, numbers.len() as u64) {
+        return refusals::BAD_RECORD;
+    }
+    if faults::tables::levels_out(over) {
+        return refusals::BAD_LEVEL;
+    }
+    if counts::is_large(next) {
+        return refusals::TOO_LARGE;
+    }
+    if room / 9 < candidate::candidate_count(candidates) {
+        return refusals::NO_ROOM;
+    }
+    refusals::NONE
+}
+
+fn too_many(tables: &[u64], over: &[u64], candidates: &[u64]) -> bool
+    ensures { λ r. ⌜ r ≡ tooManyInputs (now (tables .entry)) (now (over .entry)) (now (candidates .entry)) ⌝ }
+{
+    let numbers = candidate_faults::too_many_candidates(candidates)
+        | candidate_faults::too_many_numbers(candidates);
+    faults::tables::too_many_tables(tables) | (faults::tables::too_many_entries(over) | numbers)
+}
+
+fn broken(tables: &[u64], over: &[u64], candidates: &[u64], numbers: u64) -> bool
+    ensures { λ r. ⌜ r ≡ brokenInputs (now (tables .entry)) (now (over .entry)) (now (candidates .entry)) numbers ⌝ }
+{
+    let lists = candidate_faults::broken_candidates(candidates)
+        | candidate_faults::numbers_out(candidates, numbers);
+    faults::tables::broken_tables(tables) | (faults::tables::broken_entries(over) | lists)
+}
