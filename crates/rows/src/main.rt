@@ -1,9 +1,6 @@
 // Answers questions: reads standard input, and writes one line for each line of it (docs/ROWS.md).
-use rows_state::arithmetic;
-use rows_state::governed;
-use rows_text::answer;
-use rows_text::answer::OUT;
-use rows_text::question;
+use rows_answers::OUT;
+use rows_asked::put_answer;
 use rows_words::shape;
 use rows_words::words;
 use rows_words::words::BYTES;
@@ -14,21 +11,6 @@ const TEXT: usize = 1048576;
 // The longest question.
 const LINE: usize = 1000000;
 
-// A call's answer, by the call's number in the table.
-fn put_answer(call: u64, args: &[u64; WORDS], bytes: &[u8; BYTES], told: &mut [u64; WORDS]) {
-    match call {
-        0..=8 => told[0] = arithmetic::value_of(call, args[0], args[1]),
-        9..=28 => rows_tables::put_answer(call, args, bytes, told),
-        30..=45 => governed::put_answer(call, args, told),
-        29 | 46..=48 | 61 => rows_merges::put_answer(call, args, bytes, told),
-        49..=55 => rows_log::put_answer(call, args, told),
-        56..=59 => rows_replay::put_answer(call, args, bytes, told),
-        _ => {
-            words::put_all(told, 0, args);
-        }
-    }
-}
-
 // The answer of a question, as words; its shape, or a fault.
 fn answered(line: &[u8], args: &mut [u64; WORDS], told: &mut [u64; WORDS]) -> u64 {
     if line.len() == 0 {
@@ -38,7 +20,7 @@ fn answered(line: &[u8], args: &mut [u64; WORDS], told: &mut [u64; WORDS]) -> u6
         return shape::LONG;
     }
     let end = words::find(line, 0, b' ');
-    let asked = question::arguments(line, end, args);
+    let asked = rows_questions::arguments(line, end, args);
     if shape::FAULTS <= asked {
         return asked;
     }
@@ -65,10 +47,10 @@ fn answer_lines(
             break;
         }
         let shape = answered(words::cut(text, start, end), args, told);
-        at = answer::line(out, at, shape, told);
+        at = rows_answers::line(out, at, shape, told);
         start = end + 1;
     }
-    answer::flush(out, at);
+    rows_answers::flush(out, at);
     start
 }
 

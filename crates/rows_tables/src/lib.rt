@@ -1,5 +1,4 @@
-// The calls of keys, records, faults and levels.
-mod keyed;
+// The calls of records, faults and levels, and those of keys.
 mod placed;
 
 use records::tables;
@@ -46,8 +45,8 @@ fn put_record(call: u64, args: &[u64; WORDS], out: &mut [u64; WORDS]) {
 pub fn put_answer(call: u64, args: &[u64; WORDS], bytes: &[u8], out: &mut [u64; WORDS]) {
     match call {
         9..=15 => out[0] = count_of(call, words::part(args, 0)),
-        16..=18 => out[0] = keyed::number_of(call, args, bytes),
-        19..=23 => words::put_bytes(out, 0, keyed::key_of(call, args, bytes)),
+        16..=18 => out[0] = rows_keys::number_of(call, args, bytes),
+        19..=23 => words::put_bytes(out, 0, rows_keys::key_of(call, args, bytes)),
         24 | 25 => put_record(call, args, out),
         _ => placed::put_places(call, args, bytes, out),
     }

@@ -1,6 +1,5 @@
 // The calls that write places.
 ghost use Prim.Native.Nat.{_≤_};
-use crate::keyed;
 use rows_words::words;
 use rows_words::words::WORDS;
 
@@ -39,7 +38,11 @@ fn ordered(call: u64, args: &[u64; WORDS], bytes: &[u8], at: usize, places: &mut
         return levels::level_places(tables, n, places);
     }
     if call == 27 {
-        let keys = words::cut(bytes, 0, keyed::end_of(args, words::after(args, 0, 1), 0));
+        let keys = words::cut(
+            bytes,
+            0,
+            rows_keys::end_of(args, words::after(args, 0, 1), 0),
+        );
         return levels::sort_level(tables, keys, n, places);
     }
     levels::insert_at(

@@ -7,7 +7,7 @@ use rows_words::words;
 use rows_words::words::WORDS;
 
 // The end of the bytes of the list at a place, which begin at another.
-pub(crate) fn end_of(args: &[u64; WORDS], place: usize, from: usize) -> usize {
+pub fn end_of(args: &[u64; WORDS], place: usize, from: usize) -> usize {
     std::num::wrapping_add_usize(from, words::word(args, place) as usize)
 }
 
@@ -36,7 +36,7 @@ fn order_of(a: &[u8], b: &[u8]) -> u64 {
 }
 
 // The number of a call that answers one.
-pub(crate) fn number_of(call: u64, args: &[u64; WORDS], bytes: &[u8]) -> u64 {
+pub fn number_of(call: u64, args: &[u64; WORDS], bytes: &[u8]) -> u64 {
     let second = words::after(args, 0, 1);
     if call == 16 {
         let keys = words::cut(bytes, 0, end_of(args, second, 0));
@@ -65,7 +65,7 @@ fn table(args: &[u64; WORDS], at: usize) -> Table
 }
 
 // The key of a call that answers one.
-pub(crate) fn key_of<'a>(call: u64, args: &[u64; WORDS], bytes: &'a [u8]) -> &'a [u8] {
+pub fn key_of<'a>(call: u64, args: &[u64; WORDS], bytes: &'a [u8]) -> &'a [u8] {
     let at = words::after(args, 0, 1);
     let middle = end_of(args, 0, 0);
     let first = words::cut(bytes, 0, middle);

@@ -1,8 +1,8 @@
--- `rows_text::answer::line` is safe and ends: the place of the binary digit falls. Assumes nothing.
+-- `rows_answers::line` is safe and ends: the place of the binary digit falls. Assumes nothing.
 use Prim.Native.Nat.{_<_}
 use borrow.Author.Needs.{needs}
-use Rattle.rows_text.proofs.answer.line.Statement.{statement}
-use Rattle.rows_text.proofs.answer.line.Tie as tie
+use Rattle.rows_answers.proofs.line.Statement.{statement}
+use Rattle.rows_answers.proofs.line.Tie as tie
 
 abbrev Inv-loop : tie.InvT-loop
 Inv-loop out₀ at shape words zeros left₀ place₀ to₀ out left place to = left < 64

@@ -1,9 +1,9 @@
--- `rows_text::question::number` is safe and ends: the value stays below 2^64 by the test before each digit. Assumes nothing.
+-- `rows_questions::number` is safe and ends: the value stays below 2^64 by the test before each digit. Assumes nothing.
 use lib.ListN.{length}
 use Prim.Native.Nat.{_-_, _<_, _^_}
 use borrow.Author.Needs.{needs}
-use Rattle.rows_text.proofs.question.number.Statement.{statement}
-use Rattle.rows_text.proofs.question.number.Tie as tie
+use Rattle.rows_questions.proofs.number.Statement.{statement}
+use Rattle.rows_questions.proofs.number.Tie as tie
 
 abbrev Inv-loop : tie.InvT-loop
 Inv-loop line from args at value₀ i₀ value i = value < 2 ^ 64

@@ -1,9 +1,9 @@
--- `rows_text::answer::numbers` is safe and ends: each turn writes one number. Assumes nothing.
+-- `rows_answers::numbers` is safe and ends: each turn writes one number. Assumes nothing.
 use lib.ListN.{length}
 use Prim.Native.Nat.{_-_}
 use borrow.Author.Needs.{needs}
-use Rattle.rows_text.proofs.answer.numbers.Statement.{statement}
-use Rattle.rows_text.proofs.answer.numbers.Tie as tie
+use Rattle.rows_answers.proofs.numbers.Statement.{statement}
+use Rattle.rows_answers.proofs.numbers.Tie as tie
 
 abbrev Inv-loop : tie.InvT-loop
 Inv-loop out₀ at list to₀ i₀ out to i = Unit {0}

@@ -1,9 +1,9 @@
--- `rows_text::question::arguments` is safe and ends: each turn goes on in the line, by its own test. Assumes nothing.
+-- `rows_questions::arguments` is safe and ends: each turn goes on in the line, by its own test. Assumes nothing.
 use lib.ListN.{length}
 use Prim.Native.Nat.{_-_, _<_, _^_}
 use borrow.Author.Needs.{needs}
-use Rattle.rows_text.proofs.question.arguments.Statement.{statement}
-use Rattle.rows_text.proofs.question.arguments.Tie as tie
+use Rattle.rows_questions.proofs.arguments.Statement.{statement}
+use Rattle.rows_questions.proofs.arguments.Tie as tie
 
 abbrev Inv-loop : tie.InvT-loop
 Inv-loop line name-end args₀ shape₀ count₀ at₀ args shape count at = shape < 2 ^ 64

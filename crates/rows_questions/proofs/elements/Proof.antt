@@ -1,8 +1,8 @@
--- `rows_text::question::elements` is safe and ends: each turn fills one more of the words. Assumes nothing.
+-- `rows_questions::elements` is safe and ends: each turn fills one more of the words. Assumes nothing.
 use Prim.Native.Nat.{_-_, _≤_}
 use borrow.Author.Needs.{needs}
-use Rattle.rows_text.proofs.question.elements.Statement.{statement}
-use Rattle.rows_text.proofs.question.elements.Tie as tie
+use Rattle.rows_questions.proofs.elements.Statement.{statement}
+use Rattle.rows_questions.proofs.elements.Tie as tie
 
 abbrev Inv-loop : tie.InvT-loop
 Inv-loop line from args₀ at i₀ count₀ args i count = count ≤ 131072

@@ -93,7 +93,7 @@ fn fault(out: &mut [u8; OUT], at: usize, fault: u64) -> usize {
     }
 }
 
-// A line of the words of a shape, as question::arguments reads them, or of a fault.
+// A line of the words of a shape, as rows_questions reads them, or of a fault.
 pub fn line(out: &mut [u8; OUT], at: usize, shape: u64, words: &[u64; WORDS]) -> usize {
     if shape::FAULTS <= shape {
         return fault(out, at, shape);

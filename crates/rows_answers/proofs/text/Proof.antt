@@ -1,9 +1,9 @@
--- `rows_text::answer::text` is safe and ends: each turn writes one byte. Assumes nothing.
+-- `rows_answers::text` is safe and ends: each turn writes one byte. Assumes nothing.
 use lib.ListN.{length}
 use Prim.Native.Nat.{_-_}
 use borrow.Author.Needs.{needs}
-use Rattle.rows_text.proofs.answer.text.Statement.{statement}
-use Rattle.rows_text.proofs.answer.text.Tie as tie
+use Rattle.rows_answers.proofs.text.Statement.{statement}
+use Rattle.rows_answers.proofs.text.Tie as tie
 
 abbrev Inv-loop : tie.InvT-loop
 Inv-loop out₀ at s to₀ i₀ out to i = Unit {0}
