@@ -1,11 +1,11 @@
--- `log::recent_fault` meets its contract.
+-- `recent::recent_fault` meets its contract.
 use borrow.Author.Tests.{lt-ltb, le-ltb}
 use mathlib.Core.Path.{sym, _∙_}
 use Rattle.log.specs.Log.Sound.{is-sound}
-use Rattle.log.specs.Log.{recentFault}
+use Rattle.recent.specs.Recent.{recentFault}
 use native.Mathlib.Omega.{arith}
-use Rattle.log.proofs.recent_fault.Statement.{statement}
-use Rattle.log.proofs.recent_fault.Tie as tie
+use Rattle.recent.proofs.recent_fault.Statement.{statement}
+use Rattle.recent.proofs.recent_fault.Tie as tie
 
 log-bad-requires : tie.Need-log-bad-requires
 log-bad-requires c κs = tt

@@ -1,7 +1,8 @@
--- `log::recent_decisions` meets its contract. The invariant: what is left to write is the kept decisions from the k-th on.
+-- `recent::recent_decisions` meets its contract. The invariant: what is left to write is the kept decisions from the k-th on.
 use Rattle.log.specs.Log.Kept.{place-length, kept-next, kept-none}
-use Rattle.log.specs.Log.Sound.{recent-sound}
-use Rattle.log.specs.Log.{maxKept, keptPlace, placeWords, keptFrom, keptWords, recentOf, recentOut}
+use Rattle.recent.specs.Recent.Sound.{recent-sound}
+use Rattle.log.specs.Log.{maxKept, keptPlace, placeWords, keptFrom, keptWords}
+use Rattle.recent.specs.Recent.{recentOf, recentOut}
 use Rattle.decisions.specs.Decision.{decisionWidth}
 use Rattle.lists.specs.Writes.{Filling, fill-start, fill-part, fill-end, sets-front}
 use denote.Ref.{now}
@@ -12,8 +13,8 @@ use Prim.Native.Nat.{_+_, _*_, _-_, _≤_, _<_}
 use lib.ListN.{length}
 use borrow.Author.Needs.{needs}
 use native.Mathlib.Omega.{arith}
-use Rattle.log.proofs.recent_decisions.Statement.{statement}
-use Rattle.log.proofs.recent_decisions.Tie as tie
+use Rattle.recent.proofs.recent_decisions.Statement.{statement}
+use Rattle.recent.proofs.recent_decisions.Tie as tie
 
 abbrev Inv-loop : tie.InvT-loop
 Inv-loop log words out₀ refusal count k₀ out k =
