@@ -10,9 +10,9 @@ use Rattle.refusals.specs.Refusals.{Check, _gives_, firstFault, none, tooLarge,
 use Rattle.kinds.specs.Numbers.{modeNumber}
 use Rattle.state.specs.declared.GovernorState.{GovernorState}
 use Rattle.state.specs.declared.Times.{Times}
-use Rattle.report.specs.declared.snapshot.GovernorStats.{GovernorStats}
-use Rattle.report.specs.declared.snapshot.SnapshotAnswer.{SnapshotAnswer}
-use Rattle.report.specs.declared.snapshot.SnapshotAnswer.the-variants.{Stats, Refused}
+use Rattle.snapshot.specs.declared.GovernorStats.{GovernorStats}
+use Rattle.snapshot.specs.declared.SnapshotAnswer.{SnapshotAnswer}
+use Rattle.snapshot.specs.declared.SnapshotAnswer.the-variants.{Stats, Refused}
 use Rattle.arith.specs.Floats.{f0}
 use Rattle.state.specs.Clock.{timeUpTo, timesOf}
 

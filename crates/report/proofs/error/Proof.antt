@@ -1,6 +1,6 @@
--- `report::counters::error` meets its contract.
-use Rattle.report.proofs.counters.error.Statement.{statement}
-use Rattle.report.proofs.counters.error.Tie as tie
+-- `report::error` meets its contract.
+use Rattle.report.proofs.error.Statement.{statement}
+use Rattle.report.proofs.error.Tie as tie
 
 of-u64-requires : tie.Need-of-u64-requires
 of-u64-requires c κs = tt

@@ -1,4 +1,4 @@
--- `report::counters::record_candidate_chosen` meets its contract.
+-- `report::record_candidate_chosen` meets its contract.
 use Rattle.kinds.proofs.kind.CandidateKind as kinds
 use Rattle.kinds.specs.declared.kind.CandidateKind.the-variants.{L0, LevelBatch, TrivialMove}
 use Rattle.kinds.specs.declared.kind.CandidateKind.{CandidateKind}
@@ -11,8 +11,8 @@ use mathlib.Core.Logic.{inl, inr}
 use Rattle.report.specs.Counters.{chosenOf}
 use native.Mathlib.Omega.{arith}
 use borrow.Author.Needs.{needs}
-use Rattle.report.proofs.counters.record_candidate_chosen.Statement.{statement}
-use Rattle.report.proofs.counters.record_candidate_chosen.Tie as tie
+use Rattle.report.proofs.record_candidate_chosen.Statement.{statement}
+use Rattle.report.proofs.record_candidate_chosen.Tie as tie
 
 -- a kind that is no batch leaves the state as it is
 others : (s : GovernorState) (k : CandidateKind) → OneOf (0 ∷ 2 ∷ []) (tagOf kinds.the-type k) → s ≡ chosenOf s k

@@ -1,7 +1,7 @@
--- `report::snapshot::mean` meets its contract.
+-- `snapshot::mean` meets its contract.
 use borrow.Author.Tests.{eq-eqb, ne-eqb}
-use Rattle.report.proofs.snapshot.mean.Statement.{statement}
-use Rattle.report.proofs.snapshot.mean.Tie as tie
+use Rattle.snapshot.proofs.mean.Statement.{statement}
+use Rattle.snapshot.proofs.mean.Tie as tie
 
 returns : tie.Need-returns
 returns c = simp (eq-eqb _ _ (c .if1 .taken))

@@ -1,7 +1,7 @@
--- `report::snapshot::snapshot_fault` meets its contract.
-use Rattle.report.specs.Snapshot.{snapshotFault}
-use Rattle.report.proofs.snapshot.snapshot_fault.Statement.{statement}
-use Rattle.report.proofs.snapshot.snapshot_fault.Tie as tie
+-- `snapshot::snapshot_fault` meets its contract.
+use Rattle.snapshot.specs.Snapshot.{snapshotFault}
+use Rattle.snapshot.proofs.snapshot_fault.Statement.{statement}
+use Rattle.snapshot.proofs.snapshot_fault.Tie as tie
 
 any-large-requires : tie.Need-any-large-requires
 any-large-requires c κs = tt

@@ -1,6 +1,6 @@
--- `report::snapshot::stats` meets its contract.
-use Rattle.report.proofs.snapshot.stats.Statement.{statement}
-use Rattle.report.proofs.snapshot.stats.Tie as tie
+-- `snapshot::stats` meets its contract.
+use Rattle.snapshot.proofs.stats.Statement.{statement}
+use Rattle.snapshot.proofs.stats.Tie as tie
 
 of-u64-requires : tie.Need-of-u64-requires
 of-u64-requires c κs = tt

@@ -1,8 +1,8 @@
--- `report::snapshot::snapshot` meets its contract.
-use Rattle.report.specs.Snapshot.{snapshotOf}
+-- `snapshot::snapshot` meets its contract.
+use Rattle.snapshot.specs.Snapshot.{snapshotOf}
 use borrow.Author.Tests.{eq-eqb, ne-eqb}
-use Rattle.report.proofs.snapshot.snapshot.Statement.{statement}
-use Rattle.report.proofs.snapshot.snapshot.Tie as tie
+use Rattle.snapshot.proofs.snapshot.Statement.{statement}
+use Rattle.snapshot.proofs.snapshot.Tie as tie
 
 snapshot-fault-requires : tie.Need-snapshot-fault-requires
 snapshot-fault-requires c κs = tt

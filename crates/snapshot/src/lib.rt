@@ -1,6 +1,6 @@
 // The governor's figures at a clock reading.
 ghost use mathlib.Core.Path.{_≡_};
-ghost use Rattle.report.specs.Snapshot.{meanOf, statsOf, snapshotFault, snapshotOf};
+ghost use Rattle.snapshot.specs.Snapshot.{meanOf, statsOf, snapshotFault, snapshotOf};
 use kinds::mode::GovernorMode;
 use kinds::vector::PressureVector;
 use state::GovernorState;

@@ -1,9 +1,9 @@
--- `report::counters::outcome_fault` meets its contract.
+-- `report::outcome_fault` meets its contract.
 use Rattle.state.specs.Room.{full-is}
 use borrow.Author.Tests.{eq-eqb, ne-eqb}
 use native.Mathlib.Omega.{arith}
-use Rattle.report.proofs.counters.outcome_fault.Statement.{statement}
-use Rattle.report.proofs.counters.outcome_fault.Tie as tie
+use Rattle.report.proofs.outcome_fault.Statement.{statement}
+use Rattle.report.proofs.outcome_fault.Tie as tie
 
 is-large-requires : tie.Need-is-large-requires
 is-large-requires c κs = tt

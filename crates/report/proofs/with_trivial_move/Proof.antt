@@ -1,10 +1,10 @@
--- `report::counters::with_trivial_move` meets its contract.
+-- `report::with_trivial_move` meets its contract.
 use Rattle.state.specs.Room.{full-is}
 use Rattle.report.specs.Counters.{trivialMoveOf}
 use borrow.Author.Tests.{eq-eqb, ne-eqb}
 use native.Mathlib.Omega.{arith}
-use Rattle.report.proofs.counters.with_trivial_move.Statement.{statement}
-use Rattle.report.proofs.counters.with_trivial_move.Tie as tie
+use Rattle.report.proofs.with_trivial_move.Statement.{statement}
+use Rattle.report.proofs.with_trivial_move.Tie as tie
 
 returns : tie.Need-returns
 unfolding trivialMoveOf

@@ -1,12 +1,12 @@
--- `report::counters::with_outcome` meets its contract.
+-- `report::with_outcome` meets its contract.
 use Rattle.refusals.specs.Checks.{none-found}
 use Rattle.state.specs.Room.{room-of}
 use Rattle.report.specs.Counters.{outcomeChecks, outcomeOf}
 use borrow.Author.Tests.{eq-eqb, ne-eqb}
 use mathlib.Core.Path.{sym, _∙_}
 use native.Mathlib.Omega.{arith}
-use Rattle.report.proofs.counters.with_outcome.Statement.{statement}
-use Rattle.report.proofs.counters.with_outcome.Tie as tie
+use Rattle.report.proofs.with_outcome.Statement.{statement}
+use Rattle.report.proofs.with_outcome.Tie as tie
 
 outcome-fault-requires : tie.Need-outcome-fault-requires
 outcome-fault-requires c κs = tt
