@@ -4,7 +4,6 @@ use denote.Ref.{now}
 use Rattle.log.proofs.empty.Reads as empty
 use Rattle.log.proofs.kept_place.Reads as kept-place
 use Rattle.log.proofs.record_decision.Reads as record-decision
-use Rattle.log.proofs.recent_decisions.Reads as recent-decisions
 
 pub empty-decides : (κs : _) (a : _) (one other : _) (e f : _) → empty.Post κs a one e → empty.Post κs a other f → one ≡ other
 empty-decides κs a one other e f p q = p ∙ sym q
@@ -14,6 +13,3 @@ kept-place-decides κs a one other e f p q = p ∙ sym q
 
 pub record-decision-decides : (κs : _) (a : _) (one other : _) (e f : _) → record-decision.Post κs a one e → record-decision.Post κs a other f → (one ≡ other) × (now (e .1 .0) ≡ now (f .1 .0))
 record-decision-decides κs a one other e f p q = (p .0 ∙ sym (q .0), p .1 ∙ sym (q .1))
-
-pub recent-decisions-decides : (κs : _) (a : _) (one other : _) (e f : _) → recent-decisions.Post κs a one e → recent-decisions.Post κs a other f → (one ≡ other) × (now (e .1 .1 .0) ≡ now (f .1 .1 .0))
-recent-decisions-decides κs a one other e f p q = (p .0 ∙ sym (q .0), p .1 ∙ sym (q .1))

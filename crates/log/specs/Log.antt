@@ -1,4 +1,4 @@
--- The log of the last 4,096 decisions: what is refused, where a decision goes, and what is read back. Definitions only.
+-- The log of the last 4,096 decisions: what is refused, where a decision goes, and the words of those that are kept. Definitions only.
 pub mod Sound
 pub mod Store
 pub mod Kept
@@ -11,11 +11,10 @@ use mathlib.Core.List.{List, [], _∷_, _++_}
 use lib.ListN.{length, take, drop}
 use lib.Seq.{sets}
 use lib.Dec.{leb, ltb, eqb}
-use Rattle.refusals.specs.Refusals.{_gives_, firstFault, none, badLog, noRoom}
+use Rattle.refusals.specs.Refusals.{_gives_, firstFault, none, badLog}
 use Rattle.decisions.specs.declared.SchedulingDecision.{SchedulingDecision}
 use Rattle.log.specs.declared.DecisionLog.{DecisionLog}
 use Rattle.log.specs.declared.Recorded.{Recorded}
-use Rattle.log.specs.declared.Recent.{Recent}
 use Rattle.decisions.specs.Decision.{decisionWidth, decisionWords}
 
 abbrev pub emptyLog : DecisionLog
@@ -80,7 +79,7 @@ unfoldable pub recordedWords : DecisionLog → List ℕ → SchedulingDecision �
 recordedWords g ws d =
     cond (eqb (recordFault g (length ws)) none) (sets ws (decisionWidth * nextPlace g) (decisionWords (numbered d (nextSequence g)))) ws
 
--- ---- `recent_decisions`
+-- ---- the kept decisions
 
 -- a place's words
 abbrev pub placeWords : List ℕ → ℕ → List ℕ
@@ -93,12 +92,3 @@ keptFrom g ws k (suc n) = placeWords ws (keptPlace g k) ++ keptFrom g ws (suc k)
 
 abbrev pub keptWords : DecisionLog → List ℕ → List ℕ
 keptWords g ws = keptFrom g ws 0 (g .count)
-
-unfoldable pub recentFault : DecisionLog → ℕ → ℕ → ℕ
-recentFault g n room = firstFault (logBad g n gives badLog ∷ ltb room (decisionWidth * g .count) gives noRoom ∷ [])
-
-unfoldable pub recentOf : DecisionLog → ℕ → ℕ → Recent
-recentOf g n room = record { refusal = recentFault g n room; count = cond (eqb (recentFault g n room) none) (g .count) 0 }
-
-unfoldable pub recentOut : DecisionLog → List ℕ → List ℕ → List ℕ
-recentOut g ws out = cond (eqb (recentFault g (length ws) (length out)) none) (keptWords g ws ++ drop (decisionWidth * g .count) out) out

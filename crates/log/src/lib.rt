@@ -1,7 +1,7 @@
 // The log: first, count and sequence by value beside the lent words, which are 4,096 places of a decision each.
 ghost use mathlib.Core.Path.{_≡_};
 ghost use lib.ListN.{length};
-ghost use Rattle.log.specs.Log.{emptyLog, logBad, keptPlace, nextPlace, nextLog, nextSequence, numbered, recordFault, recordedOf, recordedWords, recentFault, recentOf, recentOut};
+ghost use Rattle.log.specs.Log.{emptyLog, logBad, keptPlace, nextPlace, nextLog, nextSequence, numbered, recordFault, recordedOf, recordedWords};
 use buffers::put_words;
 use decisions::DECISION_WIDTH;
 use decisions::SchedulingDecision;
@@ -21,11 +21,6 @@ pub struct Recorded {
     pub log: DecisionLog,
 }
 
-pub struct Recent {
-    pub refusal: u64,
-    pub count: u64,
-}
-
 pub fn empty() -> DecisionLog
     ensures { λ r. ⌜ r ≡ emptyLog ⌝ }
 {
@@ -43,7 +38,8 @@ pub fn kept_place(log: DecisionLog, k: u64) -> u64
     (log.first % MAX_DECISIONS_KEPT + k % MAX_DECISIONS_KEPT) % MAX_DECISIONS_KEPT
 }
 
-fn log_bad(log: DecisionLog, length: usize) -> bool
+// Nothing is refused by it, whatever the log and the length: callers refuse by BAD_LOG where it is true.
+pub fn log_bad(log: DecisionLog, length: usize) -> bool
     ensures { λ r. ⌜ r ≡ logBad log length ⌝ }
 {
     if length != LOG_WORDS {
@@ -128,39 +124,4 @@ pub fn record_decision(log: DecisionLog, words: &mut [u64], d: SchedulingDecisio
         refusal: fault,
         log: next_log(log),
     }
-}
-
-// ---- reading the kept decisions
-
-fn recent_fault(log: DecisionLog, length: usize, room: usize) -> u64
-    ensures { λ r. ⌜ r ≡ recentFault log length room ⌝ }
-{
-    if log_bad(log, length) {
-        return refusals::BAD_LOG;
-    }
-    if room < DECISION_WIDTH * log.count as usize {
-        return refusals::NO_ROOM;
-    }
-    refusals::NONE
-}
-
-// The words of the kept decisions, oldest first and undecoded, to the front of a buffer.
-pub fn recent_decisions(log: DecisionLog, words: &[u64], out: &mut [u64]) -> Recent
-    ensures { λ r. ⌜ r ≡ recentOf log (length (now (words .entry))) (length (now (out .entry))) ⌝ }
-    ensures { λ r. ⌜ now (out .exit) ≡ recentOut log (now (words .entry)) (now (out .entry)) ⌝ }
-{
-    let refusal = recent_fault(log, words.len(), out.len());
-    if refusal != refusals::NONE {
-        return Recent { refusal, count: 0 };
-    }
-    let count = log.count;
-    let mut k: u64 = 0;
-    while k < count {
-        let from = DECISION_WIDTH * kept_place(log, k) as usize;
-        let end = from + DECISION_WIDTH;
-        let at = DECISION_WIDTH * k as usize;
-        put_words(out, at, &words[from..end]);
-        k += 1;
-    }
-    Recent { refusal, count }
 }

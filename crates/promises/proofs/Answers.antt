@@ -13,8 +13,8 @@ use Rattle.governor.specs.Observe.{observeFault, acceptedOf, observedOf}
 use Rattle.state.specs.State.{answered}
 use Rattle.governor.specs.Engine.{engineFault, windowOf, sampleOf, engineOf}
 use Rattle.state.specs.Clock.{timesOf}
-use Rattle.report.specs.declared.snapshot.SnapshotAnswer.the-variants.{Stats, Refused}
-use Rattle.report.specs.Snapshot.{snapshotFault, statsOf, snapshotOf, snapshotRefusal, figures, snapshotNumbers}
+use Rattle.snapshot.specs.declared.SnapshotAnswer.the-variants.{Stats, Refused}
+use Rattle.snapshot.specs.Snapshot.{snapshotFault, statsOf, snapshotOf, snapshotRefusal, figures, snapshotNumbers}
 use Rattle.report.specs.Counters.{moveFault, trivialMoveOf, outcomeFault, outcomeOf}
 use Rattle.promises.specs.Reading.{Observation, sampled, counted}
 use Rattle.promises.specs.Calls.{Action, observe, move, outcome, choose, focus, snapshot, answerOf, acted}

@@ -17,7 +17,7 @@ use Rattle.pressure.specs.Pressure.{blendedOf, signalsOf}
 use Rattle.governor.specs.Observe.{acceptedOf}
 use Rattle.governor.specs.Engine.{perGet}
 use Rattle.report.specs.Counters.{chosenOf, moveFault, trivialMoveOf, outcomeFault, outcomeOf}
-use Rattle.report.specs.Snapshot.{snapshotOf, snapshotRefusal}
+use Rattle.snapshot.specs.Snapshot.{snapshotOf, snapshotRefusal}
 use Rattle.kinds.specs.declared.kind.CandidateKind.the-variants.{L0, LevelBatch, TrivialMove}
 use Rattle.promises.specs.Reading.{Observation, sampled, counted, Seen, seenFrom, seen, InEmergency, InReadProtect, ReadsAs, Apart}
 use Rattle.promises.specs.Calls.{Action, observe, move, outcome, choose, focus, snapshot, acted, after, modes, accepted, observed, observations}

@@ -20,7 +20,7 @@ use Rattle.state.specs.State.{freshOf}
 use Rattle.governor.specs.Observe.{switches, acceptedOf}
 use Rattle.governor.specs.Engine.{sampleOf}
 use Rattle.report.specs.Counters.{chosenOf, moveFault, trivialMoveOf, outcomeFault, outcomeOf}
-use Rattle.report.specs.Snapshot.{snapshotOf, snapshotRefusal}
+use Rattle.snapshot.specs.Snapshot.{snapshotOf, snapshotRefusal}
 use Rattle.promises.specs.Reading.{Observation, sampled, counted}
 use Rattle.promises.specs.Calls.{Action, observe, move, outcome, choose, focus, snapshot, acted, after, modes, accepted}
 use Rattle.promises.specs.Counts.{gathered, bytesAvoided, batchLength, outcomeError, sumOf, addedTo, changes}

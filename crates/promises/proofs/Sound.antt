@@ -22,7 +22,7 @@ use Rattle.pressure.specs.Pressure.{probedOf}
 use Rattle.governor.specs.Observe.{acceptedOf, observeChecks, observeFault, observedOf}
 use Rattle.governor.specs.Engine.{sampleOf, engineChecks, engineFault, engineOf}
 use Rattle.report.specs.Counters.{chosenOf, moveChecks, moveFault, trivialMoveOf, outcomeChecks, outcomeFault, outcomeOf}
-use Rattle.report.specs.Snapshot.{snapshotChecks, snapshotFault}
+use Rattle.snapshot.specs.Snapshot.{snapshotChecks, snapshotFault}
 use Rattle.promises.specs.Reading.{Observation, sampled, counted, Seen, seenOf}
 use Rattle.promises.specs.Calls.{Action, observe, move, outcome, choose, focus, snapshot, answerOf, acted, after}
 use Rattle.promises.proofs.Thresholds.{source-apart}

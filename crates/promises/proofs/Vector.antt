@@ -28,7 +28,7 @@ use Rattle.governor.specs.declared.engine.ReadAmpStats.{ReadAmpStats}
 use Rattle.governor.specs.Observe.{acceptedOf}
 use Rattle.governor.specs.Engine.{resolvedSince, probedSince, perGet, sampleOf}
 use Rattle.report.specs.Counters.{chosenOf, moveFault, trivialMoveOf, outcomeFault, outcomeOf}
-use Rattle.report.specs.Snapshot.{snapshotOf, snapshotRefusal}
+use Rattle.snapshot.specs.Snapshot.{snapshotOf, snapshotRefusal}
 use Rattle.choice.specs.Choice.Call.{pickChecks, pickFault, pickedOf}
 use Rattle.choice.specs.Choice.Refusal.{picked-refusal}
 use Rattle.promises.specs.Reading.{Observation, sampled, counted}

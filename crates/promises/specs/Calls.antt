@@ -14,7 +14,7 @@ use Rattle.state.specs.State.{focusedOf}
 use Rattle.governor.specs.Observe.{observedOf}
 use Rattle.governor.specs.Engine.{engineOf}
 use Rattle.report.specs.Counters.{chosenOf, trivialMoveOf, outcomeOf}
-use Rattle.report.specs.Snapshot.{snapshotOf, snapshotRefusal}
+use Rattle.snapshot.specs.Snapshot.{snapshotOf, snapshotRefusal}
 use Rattle.promises.specs.Reading.{Observation, sampled, counted}
 
 -- an observation, at a clock reading; a trivial move, with the bytes that it avoided; an outcome, predicted and actual bytes;

@@ -8,12 +8,11 @@ use prog.Wp.{Heap}
 use Rattle.state.specs.declared.GovernorState.{GovernorState}
 use Rattle.state.specs.declared.Observed.{Observed}
 use Rattle.report.specs.Counters.{trivialMoveOf, outcomeOf}
-use Rattle.report.proofs.counters.record_candidate_chosen.Reads as record-candidate-chosen
-use Rattle.report.proofs.counters.with_trivial_move.Reads as with-trivial-move
-use Rattle.report.proofs.counters.with_outcome.Reads as with-outcome
-use Rattle.report.proofs.snapshot.snapshot.Reads as snapshot
-use Rattle.report.proofs.counters.record_trivial_move as record-trivial-move
-use Rattle.report.proofs.counters.record_outcome as record-outcome
+use Rattle.report.proofs.record_candidate_chosen.Reads as record-candidate-chosen
+use Rattle.report.proofs.with_trivial_move.Reads as with-trivial-move
+use Rattle.report.proofs.with_outcome.Reads as with-outcome
+use Rattle.report.proofs.record_trivial_move as record-trivial-move
+use Rattle.report.proofs.record_outcome as record-outcome
 
 pub record-candidate-chosen-decides : (κs : _) (a : _) (one other : _) (e f : _) → record-candidate-chosen.Post κs a one e → record-candidate-chosen.Post κs a other f → one ≡ other
 record-candidate-chosen-decides κs a one other e f p q = p ∙ sym q
@@ -23,9 +22,6 @@ with-trivial-move-decides κs a one other e f p q = p ∙ sym q
 
 pub with-outcome-decides : (κs : _) (a : _) (one other : _) (e f : _) → with-outcome.Post κs a one e → with-outcome.Post κs a other f → one ≡ other
 with-outcome-decides κs a one other e f p q = p ∙ sym q
-
-pub snapshot-decides : (κs : _) (a : _) (one other : _) (e f : _) → snapshot.Post κs a one e → snapshot.Post κs a other f → one ≡ other
-snapshot-decides κs a one other e f p q = p ∙ sym q
 
 -- ---- the two over a lent governor, whose clauses have no reading: what a clause says, and that it decides
 

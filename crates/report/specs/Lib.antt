@@ -1,3 +1,2 @@
--- The reporting counters and the snapshot.
+-- The reporting counters.
 pub mod Counters
-pub mod Snapshot

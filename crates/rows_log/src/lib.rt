@@ -61,7 +61,7 @@ fn recent(args: &[u64; WORDS], words: &mut [u64], room: &mut [u64], out: &mut [u
     let seed = args[6];
     seeded::fill(words, args[4]);
     seeded::fill(room, seed);
-    let r = log::recent_decisions(log_at(args), words, room);
+    let r = recent::recent_decisions(log_at(args), words, room);
     seeded::put_changes(room, seed, out);
     out[0] = r.refusal;
     out[1] = r.count;
@@ -106,7 +106,7 @@ fn filled(start: DecisionLog, words: &mut [u64], n: u64) -> DecisionLog {
 fn run(args: &[u64; WORDS], words: &mut [u64], room: &mut [u64], out: &mut [u64; WORDS]) {
     seeded::fill(words, args[3]);
     let log = filled(log_at(args), words, args[4]);
-    log::recent_decisions(log, words, room);
+    recent::recent_decisions(log, words, room);
     put_log(out, 0, log);
     out[3] = seeded::digest(words);
     out[4] = seeded::digest(room);

@@ -10,11 +10,9 @@ use governor::observe;
 use kinds::kind::CandidateKind;
 use pressure::PressureSample;
 use pressure::pacing;
-use report::counters;
-use report::snapshot;
-use report::snapshot::SnapshotAnswer;
 use rows_words::words;
 use rows_words::words::WORDS;
+use snapshot::SnapshotAnswer;
 use state::GovernorState;
 use state::Observed;
 
@@ -60,8 +58,8 @@ fn observed(call: u64, s: GovernorState, args: &[u64; WORDS]) -> Observed {
     match call {
         39 => observe::observe(s, args[28], sample(args)),
         40 => engine::observe_engine(s, args[28], engine_sample(args), read_amp(args)),
-        41 => counters::with_trivial_move(s, args[28]),
-        42 => counters::with_outcome(s, args[28], args[29]),
+        41 => report::with_trivial_move(s, args[28]),
+        42 => report::with_outcome(s, args[28], args[29]),
         43 => lent::moved(s, args[28]),
         _ => lent::outcome(s, args[28], args[29]),
     }
@@ -115,7 +113,7 @@ fn put_asked(call: u64, s: GovernorState, args: &[u64; WORDS], out: &mut [u64; W
         }
         38 => {
             let kind = kind_of(args[28], states::small(args, 29), args[30]);
-            states::put_state(out, 0, counters::record_candidate_chosen(s, kind));
+            states::put_state(out, 0, report::record_candidate_chosen(s, kind));
         }
         45 => put_snapshot(snapshot::snapshot(s, args[28]), out),
         _ => {

@@ -8,11 +8,11 @@ use mathlib.Core.List.{List, [], _∷_, _++_, append-assoc, append-nil}
 use lib.ListN.{length, drop, replicate, length-append}
 use lib.Seq.{sets, length-sets, drop-append-le, drop-at, drop-cons, append-snoc}
 use lib.Dec.{ltb}
-use borrow.Author.Tests.{ltb-true, ltb-false, le-ltb}
+use borrow.Author.Tests.{ltb-true, ltb-false}
 use Rattle.refusals.specs.Refusals.{none}
 use Rattle.decisions.specs.declared.SchedulingDecision.{SchedulingDecision}
 use Rattle.decisions.specs.Decision.{decisionWidth, decisionWords}
-use Rattle.log.specs.Log.{maxKept, logWords, logBad, keptPlace, nextPlace, nextSequence, numbered, recordFault, recordedOf, recordedWords, keptFrom, keptWords, recentFault, recentOf, recentOut}
+use Rattle.log.specs.Log.{maxKept, logWords, logBad, keptPlace, nextPlace, nextSequence, numbered, recordFault, recordedOf, recordedWords, keptFrom, keptWords}
 use Rattle.log.specs.Log.Sound.{sound-good}
 use Rattle.log.specs.Log.Kept.{kept-grown, kept-replaced}
 use Rattle.log.specs.Log.Newest.{words-length}
@@ -103,14 +103,6 @@ module _ (s : Logged) (all : List SchedulingDecision) (h : Holds s all) where
       let n : nextSequence (s .log) ≡ min (suc (length all)) (2 ^ 64 - 1) = omega arith in
       rw (accepted, n) (next-holds (ltb (s .log .count) maxKept) refl (numbered d (min (suc (length all)) (2 ^ 64 - 1))) _ refl)
 
-  read : (out : List ℕ) → decisionWidth * s .log .count ≤ length out
-      → (recentOf (s .log) (length (s .words)) (length out) ≡ record { refusal = none; count = s .log .count })
-      × (recentOut (s .log) (s .words) out ≡ joined (lastOf maxKept all) ++ drop (decisionWidth * s .log .count) out)
-  unfolding recentFault recentOf recentOut
-  read out r =
-      let f : recentFault (s .log) (length (s .words)) (length out) ≡ none = rw (sound, le-ltb (length out) (decisionWidth * s .log .count) r) in
-      (rw f, rw (f, h .kept))
-
 -- ---- any number of them
 
 pub run-holds : (s : Logged) (all ds : List SchedulingDecision) → Holds s all → Holds (run s ds) (all ++ numberedFrom (suc (length all)) ds)
@@ -139,21 +131,14 @@ module _ (ws : List ℕ) (e : length ws ≡ logWords) (ds : List SchedulingDecis
   pub none-refused : refusals (started ws) ds ≡ replicate (length ds) none
   none-refused = never-refused (started ws) [] ds (started-holds ws e)
 
-  pub outcome : Holds (run (started ws) ds) (numberedFrom 1 ds)
+  outcome : Holds (run (started ws) ds) (numberedFrom 1 ds)
   outcome = run-holds (started ws) [] ds (started-holds ws e)
+
+  pub last-good : logBad (run (started ws) ds .log) (length (run (started ws) ds .words)) ≡ false
+  last-good = sound (run (started ws) ds) (numberedFrom 1 ds) outcome
+
+  pub last-count : run (started ws) ds .log .count ≡ min (length ds) maxKept
+  last-count = outcome .count ∙ ap (λ (n : ℕ). min n maxKept) (length-numbered 1 ds)
 
   pub last-kept : keptWords (run (started ws) ds .log) (run (started ws) ds .words) ≡ joined (lastOf maxKept (numberedFrom 1 ds))
   last-kept = outcome .kept
-
-  -- and so they are read back, to any buffer with room for them
-  pub last-read : (out : List ℕ) → decisionWidth * min (length ds) maxKept ≤ length out
-      → (recentOf (run (started ws) ds .log) (length (run (started ws) ds .words)) (length out) ≡ record { refusal = none; count = min (length ds) maxKept })
-      × (recentOut (run (started ws) ds .log) (run (started ws) ds .words) out
-      ≡ joined (lastOf maxKept (numberedFrom 1 ds)) ++ drop (decisionWidth * min (length ds) maxKept) out)
-  last-read out h =
-      let s = run (started ws) ds in
-      let n : s .log .count ≡ min (length ds) maxKept = outcome .count ∙ ap (λ (n : ℕ). min n maxKept) (length-numbered 1 ds) in
-      let r = read s (numberedFrom 1 ds) outcome out (rw n h) in (
-        r .0 ∙ ap (λ (n : ℕ). record { refusal = none; count = n }) n,
-        r .1 ∙ ap (λ (n : ℕ). joined (lastOf maxKept (numberedFrom 1 ds)) ++ drop (decisionWidth * n) out) n,
-      )

@@ -1,6 +1,6 @@
 -- A log that is not refused: its words, its first place and its count.
 use mathlib.Core.Path.{_≡_}
-use Prim.Native.Nat.{ℕ, _*_, _≤_, _<_}
+use Prim.Native.Nat.{ℕ, _≤_, _<_}
 use native.Mathlib.Omega.{arith}
 use mathlib.Core.Bool.{Bool, true, false, cond}
 use mathlib.Core.List.{[], _∷_}
@@ -8,10 +8,9 @@ use lib.Dec.{ltb}
 use borrow.Author.Tests.{eq-eqb, le-ltb, lt-leb, ltb-false, leb-false, eqb-true, not-false}
 use Rattle.log.specs.declared.DecisionLog.{DecisionLog}
 use Rattle.lists.specs.Tests.{neither}
-use Rattle.refusals.specs.Refusals.{_gives_, none, badLog, noRoom}
+use Rattle.refusals.specs.Refusals.{_gives_, none, badLog}
 use Rattle.refusals.specs.Checks.{none-found}
-use Rattle.decisions.specs.Decision.{decisionWidth}
-use Rattle.log.specs.Log.{maxKept, logWords, logBad, keptPlace, nextPlace, recordFault, recentFault}
+use Rattle.log.specs.Log.{maxKept, logWords, logBad, keptPlace, nextPlace, recordFault}
 
 pub record Sound (g : DecisionLog) (n : ℕ) : Type 0 where
   pub long : n ≡ logWords
@@ -25,17 +24,11 @@ is-sound g n e =
     let f = neither _ _ (l .1) in
     record { long = eqb-true n logWords (not-false _ (l .0)); first = leb-false maxKept (g .first) (f .0); count = ltb-false maxKept (g .count) (f .1) }
 
--- what no fault of a call says
+-- what no fault of adding says
 
 pub record-sound : (g : DecisionLog) (n : ℕ) → recordFault g n ≡ none → Sound g n
 unfolding recordFault
 record-sound g n e = is-sound g n (none-found (logBad g n gives badLog ∷ []) tt e .0)
-
-pub recent-sound : (g : DecisionLog) (n room : ℕ) → recentFault g n room ≡ none → Sound g n × (decisionWidth * g .count ≤ room)
-unfolding recentFault
-recent-sound g n room e =
-    let f = none-found (logBad g n gives badLog ∷ ltb room (decisionWidth * g .count) gives noRoom ∷ []) tt e in
-    (is-sound g n (f .0), ltb-false room (decisionWidth * g .count) (f .1 .0))
 
 pub next-small : (g : DecisionLog) (n : ℕ) → Sound g n → nextPlace g < maxKept
 unfolding nextPlace

@@ -1,11 +1,10 @@
 -- What words written from a place on leave of the parts of a list.
 use mathlib.Core.Path.{_≡_, sym, _∙_, ap}
-use Prim.Native.Nat.{ℕ, suc, _+_, _-_, _≤_, _<_}
+use Prim.Native.Nat.{ℕ, _+_, _-_, _≤_}
 use native.Mathlib.Omega.{arith}
-use native.Mathlib.Numerals.{add-one}
 use mathlib.Core.List.{List, _++_, append-assoc}
-use lib.ListN.{length, take, drop, getD, set, length-append, length-drop, take-append-drop, drop-of-length-le}
-use lib.Seq.{sets, sets-eq, drop-cons, take-at, drop-at, take-append-seam, take-append-le, drop-append-le, drop-append-add, drop-drop, length-take-le}
+use lib.ListN.{length, take, drop, length-append, length-drop, take-append-drop}
+use lib.Seq.{sets, sets-eq, drop-at, take-append-seam, take-append-le, drop-append-le, drop-append-add, drop-drop, length-take-le}
 
 -- n words from q on, of a list that goes on
 front-slice : (a rest : List ℕ) (q n : ℕ) → q + n ≤ length a → take n (drop q (a ++ rest)) ≡ take n (drop q a)

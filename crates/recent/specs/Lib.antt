@@ -1,0 +1,2 @@
+-- The log read back.
+pub mod Recent

@@ -1,0 +1,44 @@
+-- `report::record_candidate_chosen` meets its contract.
+use Rattle.kinds.proofs.kind.CandidateKind as kinds
+use Rattle.kinds.specs.declared.kind.CandidateKind.the-variants.{L0, LevelBatch, TrivialMove}
+use Rattle.kinds.specs.declared.kind.CandidateKind.{CandidateKind}
+use Rattle.state.specs.declared.GovernorState.{GovernorState}
+use denote.Enum.Declared.{tagOf}
+use types.Run.{OneOf}
+use mathlib.Core.List.{[], _∷_}
+use mathlib.Core.Path.{_≡_, refl}
+use mathlib.Core.Logic.{inl, inr}
+use Rattle.report.specs.Counters.{chosenOf}
+use native.Mathlib.Omega.{arith}
+use borrow.Author.Needs.{needs}
+use Rattle.report.proofs.record_candidate_chosen.Statement.{statement}
+use Rattle.report.proofs.record_candidate_chosen.Tie as tie
+
+-- a kind that is no batch leaves the state as it is
+others : (s : GovernorState) (k : CandidateKind) → OneOf (0 ∷ 2 ∷ []) (tagOf kinds.the-type k) → s ≡ chosenOf s k
+unfolding chosenOf
+others s L0 h = refl
+others s (TrivialMove level) h = refl
+others s (LevelBatch level n) (inl e) = absurd (omega arith)
+others s (LevelBatch level n) (inr e) = absurd (omega arith)
+
+enum-known-kind : tie.Need-enum-known-kind
+enum-known-kind c = search needs
+
+saturating-add-requires : tie.Need-saturating-add-requires
+saturating-add-requires c κs = tt
+
+saturating-add-requires-2 : tie.Need-saturating-add-requires-2
+saturating-add-requires-2 c κs = tt
+
+returns : tie.Need-returns
+unfolding chosenOf
+returns c = simp (c .before .before .before .before .before .kind .given .1, c .before .before .saturating-add2 .ensures, c .before .before .before .saturating-add .ensures)
+
+returns-2 : tie.Need-returns-2
+returns-2 c = others (c .before .args .s) (c .before .args .kind) (c .match .keys2)
+
+pub record-candidate-chosen-spec : {M : Type 1} → statement M
+record-candidate-chosen-spec =
+    tie.close
+    (tie.spec enum-known-kind saturating-add-requires saturating-add-requires-2 returns returns-2)

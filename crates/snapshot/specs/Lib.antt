@@ -1,0 +1,2 @@
+-- The snapshot.
+pub mod Snapshot
