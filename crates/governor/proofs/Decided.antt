@@ -1,10 +1,6 @@
 -- 01 (a), of each public call here: two outcomes that its contract allows are the same.
 use mathlib.Core.Path.{_≡_, sym, _∙_}
-use Rattle.governor.proofs.observe.observe.Reads as observe
-use Rattle.governor.proofs.engine.observe_engine.Reads as observe-engine
+use Rattle.governor.proofs.observe.Reads as observe
 
 pub observe-decides : (κs : _) (a : _) (one other : _) (e f : _) → observe.Post κs a one e → observe.Post κs a other f → one ≡ other
 observe-decides κs a one other e f p q = p ∙ sym q
-
-pub observe-engine-decides : (κs : _) (a : _) (one other : _) (e f : _) → observe-engine.Post κs a one e → observe-engine.Post κs a other f → one ≡ other
-observe-engine-decides κs a one other e f p q = p ∙ sym q

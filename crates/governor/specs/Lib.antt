@@ -1,3 +1,2 @@
--- The two observations: what refuses each, and the state after it.
+-- One observation: what refuses it, and the state after it.
 pub mod Observe
-pub mod Engine

@@ -1,0 +1,71 @@
+-- The observation of the running engine: a window over its read counters since the last one. Definitions only.
+pub mod WindowFault
+use Prim.Native.Nat.{ℕ, _+_, _-_, _^_}
+use mathlib.Core.Bool.{Bool, cond, not, _||_}
+use mathlib.Core.List.{List, [], _∷_}
+use lib.Dec.{ltb}
+use lib.Ieee.{Float, binary64, div}
+use Rattle.arith.specs.Whole.{floatOf}
+use Rattle.counts.specs.Counts.{large, anyLarge}
+use Rattle.refusals.specs.Refusals.{Check, _gives_, firstFault, badState, tooLarge, counterFull}
+use Rattle.state.specs.declared.GovernorState.{GovernorState}
+use Rattle.state.specs.declared.Observed.{Observed}
+use Rattle.state.specs.declared.Window.{Window}
+use Rattle.pressure.specs.declared.PressureSample.{PressureSample}
+use Rattle.engine.specs.declared.ReadAmpStats.{ReadAmpStats}
+use Rattle.engine.specs.declared.EngineSample.{EngineSample}
+use Rattle.kinds.specs.Tuning.{Tuning}
+use Rattle.modes.specs.Mode.{soundOf}
+use Rattle.governor.specs.Observe.{countersFull, acceptedOf}
+use Rattle.state.specs.State.{answered}
+
+-- exact: it may pass 2^64 - 1
+abbrev pub probedSum : ReadAmpStats → ℕ
+probedSum a = a .«l0_tables_probed» + a .«leveled_tables_probed»
+
+abbrev pub resolvedSum : ReadAmpStats → ℕ
+resolvedSum a = a .«gets_total» - a .«resolved_in_memtable» - a .«resolved_in_immutable»
+
+-- what is new since the last observation, 0 where a sum fell
+abbrev pub probedSince : Window → ReadAmpStats → ℕ
+probedSince w a = probedSum a - w .«last_probed»
+
+abbrev pub resolvedSince : Window → ReadAmpStats → ℕ
+resolvedSince w a = resolvedSum a - w .«last_resolved»
+
+abbrev pub deltasLarge : Window → ReadAmpStats → Bool
+deltasLarge w a = large (probedSince w a) || large (resolvedSince w a)
+
+-- with no resolved gets the old smoothed value is fed in again
+unfoldable pub perGet : GovernorState → ReadAmpStats → Float
+perGet s a =
+    cond (ltb 0 (resolvedSince (s .window) a)) (div binary64 (floatOf (probedSince (s .window) a)) (floatOf (resolvedSince (s .window) a)))
+    (s .signals .«tables_probed_ewma»)
+
+abbrev pub sampleOf : GovernorState → EngineSample → ReadAmpStats → PressureSample
+sampleOf s e a =
+    record {
+      «l0_count» = e .«l0_count»;
+      «l0_write_stall_trigger» = e .«l0_write_stall_trigger»;
+      «max_level_debt_ratio» = e .«max_level_debt_ratio»;
+      «tables_probed_per_get» = perGet s a;
+      «backlog_levels» = e .«backlog_levels»;
+    }
+
+-- 1, 2, 3
+abbrev pub engineChecks : Tuning → GovernorState → ℕ → EngineSample → ReadAmpStats → List Check
+engineChecks G s now e a =
+    not (soundOf G (s .mode) (s .streaks)) gives badState
+    ∷ (anyLarge (e .«l0_count») (e .«l0_write_stall_trigger») (e .«backlog_levels») || deltasLarge (s .window) a) gives tooLarge
+    ∷ (ltb (2 ^ 64 - 1) (probedSum a) || countersFull G s now (sampleOf s e a)) gives counterFull
+    ∷ []
+
+unfoldable pub engineFault : Tuning → GovernorState → ℕ → EngineSample → ReadAmpStats → ℕ
+engineFault G s now e a = firstFault (engineChecks G s now e a)
+
+-- both sums are kept, also where no get resolved
+abbrev pub windowOf : ReadAmpStats → Window
+windowOf a = record { «last_probed» = probedSum a; «last_resolved» = resolvedSum a }
+
+unfoldable pub engineOf : Tuning → GovernorState → ℕ → EngineSample → ReadAmpStats → Observed
+engineOf G s now e a = answered (engineFault G s now e a) s (acceptedOf G s (windowOf a) now (sampleOf s e a))
