@@ -24,9 +24,9 @@ use Rattle.candidate_faults.specs.Candidates.{inUnit}
 use Rattle.state.specs.declared.GovernorState.{GovernorState}
 use Rattle.state.specs.State.{freshOf}
 use Rattle.pressure.specs.Pressure.Range.{Ranged, signals-ranged}
-use Rattle.governor.specs.declared.engine.ReadAmpStats.{ReadAmpStats}
+use Rattle.engine.specs.declared.ReadAmpStats.{ReadAmpStats}
 use Rattle.governor.specs.Observe.{acceptedOf}
-use Rattle.governor.specs.Engine.{resolvedSince, probedSince, perGet, sampleOf}
+use Rattle.engine.specs.Engine.{resolvedSince, probedSince, perGet, sampleOf}
 use Rattle.report.specs.Counters.{chosenOf, moveFault, trivialMoveOf, outcomeFault, outcomeOf}
 use Rattle.snapshot.specs.Snapshot.{snapshotOf, snapshotRefusal}
 use Rattle.choice.specs.Choice.Call.{pickChecks, pickFault, pickedOf}

@@ -1,6 +1,4 @@
 // The calls of decisions and of their log, whose words come from a seed.
-mod seeded;
-
 use decisions::DecisionRead;
 use log::DecisionLog;
 use log::Recorded;
@@ -47,25 +45,25 @@ fn recorded(log: DecisionLog, words: &mut [u64], list: &[u64]) -> Recorded {
 
 fn record(args: &[u64; WORDS], words: &mut [u64], out: &mut [u64; WORDS]) {
     let seed = args[4];
-    seeded::fill(words, seed);
+    rows_seeded::fill(words, seed);
     let r = recorded(log_at(args), words, words::part(args, 5));
     out[0] = r.refusal;
     put_log(out, 1, r.log);
-    seeded::put_changes(words, seed, out);
-    words::put(out, words::after(out, 4, 1), seeded::digest(words));
+    rows_seeded::put_changes(words, seed, out);
+    words::put(out, words::after(out, 4, 1), rows_seeded::digest(words));
 }
 
 // ---- the kept decisions
 
 fn recent(args: &[u64; WORDS], words: &mut [u64], room: &mut [u64], out: &mut [u64; WORDS]) {
     let seed = args[6];
-    seeded::fill(words, args[4]);
-    seeded::fill(room, seed);
+    rows_seeded::fill(words, args[4]);
+    rows_seeded::fill(room, seed);
     let r = recent::recent_decisions(log_at(args), words, room);
-    seeded::put_changes(room, seed, out);
+    rows_seeded::put_changes(room, seed, out);
     out[0] = r.refusal;
     out[1] = r.count;
-    out[2] = seeded::digest(room);
+    out[2] = rows_seeded::digest(room);
     out[3] = out[4] / 2;
 }
 
@@ -104,12 +102,12 @@ fn filled(start: DecisionLog, words: &mut [u64], n: u64) -> DecisionLog {
 }
 
 fn run(args: &[u64; WORDS], words: &mut [u64], room: &mut [u64], out: &mut [u64; WORDS]) {
-    seeded::fill(words, args[3]);
+    rows_seeded::fill(words, args[3]);
     let log = filled(log_at(args), words, args[4]);
     recent::recent_decisions(log, words, room);
     put_log(out, 0, log);
-    out[3] = seeded::digest(words);
-    out[4] = seeded::digest(room);
+    out[3] = rows_seeded::digest(words);
+    out[4] = rows_seeded::digest(room);
 }
 
 fn put_seeded(call: u64, args: &[u64; WORDS], out: &mut [u64; WORDS]) {

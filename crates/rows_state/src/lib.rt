@@ -1,5 +1,3 @@
-// The calls of arith, kinds, state, pressure, governor, report and snapshot.
+// The calls of arith, and a governor's state as words.
 pub mod arithmetic;
-pub mod governed;
-mod lent;
 pub mod states;

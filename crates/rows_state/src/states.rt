@@ -18,11 +18,11 @@ pub fn float(args: &[u64; WORDS], at: usize) -> f64 {
 }
 
 // The low 32 bits of a word.
-pub(crate) fn small(args: &[u64; WORDS], at: usize) -> u32 {
+pub fn small(args: &[u64; WORDS], at: usize) -> u32 {
     (words::word(args, at) % 0x1_0000_0000) as u32
 }
 
-pub(crate) fn mode_of(n: u64) -> GovernorMode {
+pub fn mode_of(n: u64) -> GovernorMode {
     match n {
         0 => GovernorMode::Balanced,
         1 => GovernorMode::ReadProtect,
@@ -63,7 +63,7 @@ pub fn vector_at(args: &[u64; WORDS], at: usize) -> PressureVector {
     }
 }
 
-pub(crate) fn vector_words(v: PressureVector) -> [u64; 3] {
+pub fn vector_words(v: PressureVector) -> [u64; 3] {
     [
         floats::to_bits(v.l0),
         floats::to_bits(v.deep_debt),
@@ -71,7 +71,7 @@ pub(crate) fn vector_words(v: PressureVector) -> [u64; 3] {
     ]
 }
 
-pub(crate) fn state(args: &[u64; WORDS]) -> GovernorState {
+pub fn state(args: &[u64; WORDS]) -> GovernorState {
     GovernorState {
         mode: mode_of(args[1]),
         signals: Signals {
@@ -110,7 +110,7 @@ pub(crate) fn state(args: &[u64; WORDS]) -> GovernorState {
 }
 
 // The list of a state's words goes to a place.
-pub(crate) fn put_state(out: &mut [u64; WORDS], at: usize, s: GovernorState) {
+pub fn put_state(out: &mut [u64; WORDS], at: usize, s: GovernorState) {
     let v = vector_words(s.signals.pressure_vector);
     let focus = focus_words(s.focus);
     let mode = s.mode;

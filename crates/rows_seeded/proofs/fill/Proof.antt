@@ -1,11 +1,11 @@
--- `rows_log::seeded::fill` is safe and ends: each turn fills one word. Assumes nothing.
+-- `rows_seeded::fill` is safe and ends: each turn fills one word. Assumes nothing.
 use mathlib.Core.Path.{_≡_}
 use lib.ListN.{length}
 use Prim.Native.Nat.{_-_}
 use borrow.Author.Needs.{needs}
 use lib.ListN.{length-set}
-use Rattle.rows_log.proofs.seeded.fill.Statement.{statement}
-use Rattle.rows_log.proofs.seeded.fill.Tie as tie
+use Rattle.rows_seeded.proofs.fill.Statement.{statement}
+use Rattle.rows_seeded.proofs.fill.Tie as tie
 
 abbrev Inv-loop : tie.InvT-loop
 Inv-loop words₀ seed word₀ i₀ words word i = length words ≡ length words₀

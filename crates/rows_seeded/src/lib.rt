@@ -7,7 +7,7 @@ fn odd_after(word: u64, seed: u64) -> u64 {
 }
 
 // The i-th word is seed * (2 i + 1).
-pub(crate) fn fill(words: &mut [u64], seed: u64) {
+pub fn fill(words: &mut [u64], seed: u64) {
     let mut word = seed;
     let mut i = 0;
     while i < words.len() {
@@ -18,7 +18,7 @@ pub(crate) fn fill(words: &mut [u64], seed: u64) {
 }
 
 // The sum of each word times its place from 1 on, by the sums from each place to the end.
-pub(crate) fn digest(words: &[u64]) -> u64 {
+pub fn digest(words: &[u64]) -> u64 {
     let mut sum = 0;
     let mut total = 0;
     let mut i = words.len();
@@ -31,7 +31,7 @@ pub(crate) fn digest(words: &[u64]) -> u64 {
 }
 
 // The list of the places and words that differ from the seed's, from 4 on.
-pub(crate) fn put_changes(words: &[u64], seed: u64, out: &mut [u64; WORDS]) {
+pub fn put_changes(words: &[u64], seed: u64, out: &mut [u64; WORDS]) {
     let mut to = 5;
     let mut word = seed;
     let mut i = 0;

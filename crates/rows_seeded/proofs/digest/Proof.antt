@@ -1,9 +1,9 @@
--- `rows_log::seeded::digest` is safe and ends: the place falls to the front. Assumes nothing.
+-- `rows_seeded::digest` is safe and ends: the place falls to the front. Assumes nothing.
 use lib.ListN.{length}
 use Prim.Native.Nat.{_≤_}
 use borrow.Author.Needs.{needs}
-use Rattle.rows_log.proofs.seeded.digest.Statement.{statement}
-use Rattle.rows_log.proofs.seeded.digest.Tie as tie
+use Rattle.rows_seeded.proofs.digest.Statement.{statement}
+use Rattle.rows_seeded.proofs.digest.Tie as tie
 
 abbrev Inv-loop : tie.InvT-loop
 Inv-loop words sum₀ total₀ i₀ sum total i = i ≤ length words

@@ -5,7 +5,7 @@ use denote.Struct.Laws as LL
 use Rattle.report.proofs.Lent.{governor, observed}
 use Rattle.state.proofs.Observed as O
 use Rattle.state.proofs.Observed.Laws as O′
-use Rattle.rows_state.proofs.lent.Lender.{Made}
+use Rattle.rows_governed.proofs.lent.Lender.{Made}
 
 abbrev pub made : Made governor observed
 made =

@@ -1,4 +1,4 @@
--- `rows_state::lent::outcome` meets its contract, by `proofs/lent/Lender.antt`. Assumes nothing.
+-- `rows_governed::lent::outcome` meets its contract, by `proofs/lent/Lender.antt`. Assumes nothing.
 use mathlib.Core.List.{[], _∷_}
 use contract.Running.{givenOf, tables, tablesOf}
 use denote.Triple.Spec.{tripleOf}
@@ -9,17 +9,17 @@ use Rattle.report.proofs.Lent.{governor, observed}
 use Rattle.report.proofs.record_outcome.Symbol as g-def
 use Rattle.report.proofs.record_outcome.Symbol.{name as #report·record-outcome}
 use Rattle.report.proofs.record_outcome.Met as g-thm
-use Rattle.rows_state.proofs.lent.Lender.{Callee, lender-meets}
-use Rattle.rows_state.proofs.lent.Governor.{made}
-use Rattle.rows_state.proofs.lent.outcome.Key.{name as #rows_state·lent·outcome}
-use Rattle.rows_state.proofs.lent.outcome as f
-use Rattle.rows_state.proofs.lent.outcome.Statement as stated
-use Rattle.rows_state.proofs.lent.outcome.Code as code
+use Rattle.rows_governed.proofs.lent.Lender.{Callee, lender-meets}
+use Rattle.rows_governed.proofs.lent.Governor.{made}
+use Rattle.rows_governed.proofs.lent.outcome.Key.{name as #rows_governed·lent·outcome}
+use Rattle.rows_governed.proofs.lent.outcome as f
+use Rattle.rows_governed.proofs.lent.outcome.Statement as stated
+use Rattle.rows_governed.proofs.lent.outcome.Code as code
 
 pub outcome-spec : {M : Type 1} → stated.statement M
 unfolding code.routine tablesOf
 outcome-spec 𝓤 H 𝓜 𝓖 𝓡 =
     entered 𝓤 H (tripleOf 𝓤 H (𝓖 .A) f.signature (f.spec 𝓤 H (𝓖 .A) (𝓜 .mem) (𝓡 .run)))
-    (tables 𝓤 H 𝓜 𝓡 code.env .C) (tables 𝓤 H 𝓜 𝓡 code.env .Λ) #rows_state·lent·outcome code.function (code.unfolded 𝓤 H 𝓜 𝓡)
+    (tables 𝓤 H 𝓜 𝓡 code.env .C) (tables 𝓤 H 𝓜 𝓡 code.env .Λ) #rows_governed·lent·outcome code.function (code.unfolded 𝓤 H 𝓜 𝓡)
     (lender-meets 𝓤 H (𝓖 .A) (givenOf 𝓤 H 𝓜 𝓖) governor observed made (u64-plain ∷ u64-plain ∷ []) (λ s a. outcomeOf s (a .0) (a .1 .0)) #report·record-outcome (tablesOf 𝓤 H 𝓜 (tables 𝓤 H 𝓜 𝓡 code.env))
     (cited 𝓤 H (Callee 𝓤 H (𝓖 .A) governor observed (u64-plain ∷ u64-plain ∷ []) (λ s a. outcomeOf s (a .0) (a .1 .0))) 𝓜 𝓡 code.env #report·record-outcome g-def.routine code.calls-report·record-outcome (g-thm.met 𝓤 H 𝓜 𝓖 𝓡)))
