@@ -1,0 +1,69 @@
+-- The candidates of a list of tables, as the Rust's `generate_candidates` has them, on lists: filter, stable sort, minimum by number, take. A table goes by its place in the list. Definitions only.
+use Prim.Native.Nat.{ℕ, _+_, min}
+use mathlib.Core.Bool.{Bool, cond, _&&_, _||_}
+use mathlib.Core.List.{List, [], _∷_, _++_}
+use lib.ListN.{length, take, drop}
+use lib.Dec.{leb, ltb}
+use Rattle.records.specs.declared.tables.Table.{Table}
+use Rattle.records.specs.declared.tables.Entry.{Entry}
+use Rattle.records.specs.Tables.{tablesOf, entriesOf}
+use Rattle.faults.specs.Tables.{tooManyTables, tooManyEntries, levelsOut}
+use Rattle.lists.specs.Records.{tabulate}
+use Rattle.levels.specs.Levels.{placesOf, byKey}
+use Rattle.offers.specs.Offers.{seedOf}
+use Rattle.trivial_moves.specs.Moves.{movesOf}
+use Rattle.writers.specs.Writers.{numbersOf, mergedOf}
+
+-- a candidate with the numbers of its tables
+pub record Offer : Type 0 where
+  pub kind : ℕ
+  pub level : ℕ
+  pub batchLen : ℕ
+  pub output : ℕ
+  pub numbers : List ℕ
+
+abbrev pub offer : ℕ → ℕ → ℕ → List ℕ → Offer
+offer kind level len ns = record { kind = kind; level = level; batchLen = len; output = level + 1; numbers = ns }
+
+-- ---- L0: all of it, if there is any and it reaches the trigger
+
+unfoldable pub l0Offers : List ℕ → List Table → ℕ → List Offer
+l0Offers ks ts trigger =
+    cond (ltb 0 (length (placesOf 0 ts)) && leb trigger (length (placesOf 0 ts)))
+    (offer 1 0 0 (mergedOf ks ts (placesOf 1 ts) (placesOf 0 ts)) ∷ [])
+    []
+
+-- ---- a level: batches of a run of places, the first of one table, each of one more, up to eight; then its moves
+
+unfoldable pub batchOf : List ℕ → List Table → ℕ → List ℕ → List ℕ → ℕ → Offer
+batchOf ks ts level next run k = offer 2 level k (mergedOf ks ts next (take k run))
+
+abbrev pub batchesOf : List ℕ → List Table → ℕ → List ℕ → List ℕ → List Offer
+batchesOf ks ts level next run = tabulate (batchOf ks ts level next run) (min 8 (length run)) 1
+
+unfoldable pub moveOffers : List Table → ℕ → List ℕ → List Offer
+moveOffers ts level moves = cond (ltb 0 (length moves)) (offer 3 level 0 (numbersOf ts moves) ∷ []) []
+
+-- a level with no table gives nothing
+unfoldable pub levelOffers : List ℕ → List Table → ℕ → List ℕ → List ℕ → List Offer
+levelOffers ks ts level next order =
+    batchesOf ks ts level next (drop (seedOf ts order) order) ++ moveOffers ts level (movesOf ks ts next order)
+
+-- ---- all: L0, then each over-budget level in order
+
+unfoldable pub overOffers : List ℕ → List Table → List Entry → List Offer
+overOffers ks ts [] = []
+overOffers ks ts (e ∷ es) =
+    levelOffers ks ts (e .level) (placesOf (e .level + 1) ts) (byKey ks ts (e .level)) ++ overOffers ks ts es
+
+unfoldable pub offersOf : List ℕ → List Table → ℕ → List Entry → List Offer
+offersOf ks ts trigger es = l0Offers ks ts trigger ++ overOffers ks ts es
+
+-- ---- of lent words: none where tables or entries are too many, or a level has none below
+
+abbrev pub pastLimits : List ℕ → List ℕ → Bool
+pastLimits tables over = (tooManyTables tables || tooManyEntries over) || levelsOut over
+
+unfoldable pub lentOffers : List ℕ → List ℕ → ℕ → List ℕ → List Offer
+lentOffers tables keys trigger over =
+    cond (pastLimits tables over) [] (offersOf keys (tablesOf tables) trigger (entriesOf over))
