@@ -12,7 +12,6 @@ use Rattle.candidate_words.specs.Candidates.{levelOffers}
 use Rattle.records.specs.Tables.{tablesOf}
 use Rattle.candidate_words.specs.Writing.{fit-left, fit-right, written-append}
 use Rattle.offers.specs.Batches.{seed-small}
-use Rattle.trivial_moves.specs.Laws.{moves-small}
 use Rattle.candidate_words.proofs.generate.put_ordered.Statement.{statement}
 use Rattle.candidate_words.proofs.generate.put_ordered.Tie as tie
 
@@ -26,11 +25,11 @@ run c =
     take-all (length ps - c .seed .result) (drop (c .seed .result) ps) (simp length-drop (omega arith)) ∙ rw (c .seed .ensures)
 
 -- the order is short enough for all of it to be looked at
-held : (c : tie.After-free-moves) → let a = c .before .before .before .before .before .before .before .before .before .before .before .before .before .before .before .before .args in (c .free-moves .result .len ≤ 8) × (heldIn (c .free-moves .result) ≡ movesOf (now (a .keys)) (tablesOf (now (a .tables))) (now (a .next)) (now (a .order)))
+held : (c : tie.After-free-moves) → let a = c .before .before .before .before .before .before .before .before .before .before .before .before .before .before .before .before .args in heldIn (c .free-moves .result) ≡ movesOf (now (a .keys)) (tablesOf (now (a .tables))) (now (a .next)) (now (a .order))
 held c =
     let a = c .before .before .before .before .before .before .before .before .before .before .before .before .before .before .before .before .args in
     let h = rw (take-all 1024 (now (a .order)) (c .before .before .before .before .before .before .before .before .before .before .before .before .before .before .before .before .pre .0 .1)) at (c .free-moves .ensures) in
-    (omega (arith, h .count, moves-small (now (a .keys)) (tablesOf (now (a .tables))) (now (a .next)) (now (a .order))), h .places)
+    h .places
 
 seed-requires : tie.Need-seed-requires
 seed-requires c κs = tt
@@ -56,7 +55,7 @@ free-moves-requires c κs = tt
 
 put-moves-requires : tie.Need-put-moves-requires
 unfolding levelOffers
-put-moves-requires c κs = ((c .before .before .before .before .before .before .before .before .before .before .before .before .before .before .before .before .before .before .pre .0 .0, held (c .before .before) .0), rw (held (c .before .before) .1) (fit-right _ _ _ _ _ _ _ _ (c .before .before .before .before .before .before .before .before .before .before .before .before .before .before .before .before .before .before .pre .1) (rw (run (c .before .before .before .before .before .before .before .before .before .before .before)) at (c .before .before .before .before .before .before .before .put-batches .ensures))))
+put-moves-requires c κs = (c .before .before .before .before .before .before .before .before .before .before .before .before .before .before .before .before .before .before .pre .0 .0, rw (held (c .before .before)) (fit-right _ _ _ _ _ _ _ _ (c .before .before .before .before .before .before .before .before .before .before .before .before .before .before .before .before .before .before .pre .1) (rw (run (c .before .before .before .before .before .before .before .before .before .before .before)) at (c .before .before .before .before .before .before .before .put-batches .ensures))))
 
 same-length : tie.Need-same-length
 same-length c = c .before .before .before .before .put-moves .kept .1 .1 .1 .0 ∙ c .before .before .before .before .before .before .before .before .before .before .before .before .put-batches .kept .1 .1 .1 .1 .1 .0
@@ -66,7 +65,7 @@ same-length-2 c = c .before .before .before .before .put-moves .kept .1 .1 .1 .1
 
 returns : tie.Need-returns
 unfolding levelOffers
-returns c = written-append _ _ _ _ _ _ _ _ _ _ _ (rw (run (c .before .before .before .before .before .before .before .before .before .before .before .before .before .before .before .before)) at (c .before .before .before .before .before .before .before .before .before .before .before .before .put-batches .ensures)) (rw (held (c .before .before .before .before .before .before .before) .1) at (c .before .before .before .before .put-moves .ensures))
+returns c = written-append _ _ _ _ _ _ _ _ _ _ _ (rw (run (c .before .before .before .before .before .before .before .before .before .before .before .before .before .before .before .before)) at (c .before .before .before .before .before .before .before .before .before .before .before .before .put-batches .ensures)) (rw (held (c .before .before .before .before .before .before .before)) at (c .before .before .before .before .put-moves .ensures))
 
 pub put-ordered-spec : {M : Type 1} → statement M
 put-ordered-spec =
