@@ -16,13 +16,17 @@ use Rattle.lists.specs.Records.{tabulate}
 use Rattle.faults.specs.Tables.{levelsOut}
 use Rattle.levels.specs.Levels.{atLevel, placesOf}
 use Rattle.levels.specs.Bounds.{byKey-small}
-use Rattle.candidate_words.specs.Candidates.{Offer, l0Offers, batchOf, moveOffers, levelOffers, overOffers, offersOf, pastLimits, lentOffers}
+use Rattle.l0_words.specs.Words.{Offer}
+use Rattle.l0_words.specs.L0.{l0Offers, lentL0}
+use Rattle.l0_words.specs.Laws.{l0-within}
+use Rattle.candidate_words.specs.Candidates.{batchOf, moveOffers, levelOffers, overOffers, offersOf, pastLimits, lentOffers}
 use Rattle.offers.specs.Offers.{seedOf}
 use Rattle.trivial_moves.specs.Moves.{movesOf}
 use Rattle.trivial_moves.specs.Laws.{moves-small}
 use Rattle.writers.specs.Steps.{numbers-length, merged-small}
-use Rattle.candidate_words.specs.Words.{wordsFrom, numbersIn}
-use Rattle.candidate_words.specs.Writing.{Fit, start, numbers-append}
+use Rattle.l0_words.specs.Words.{wordsFrom, numbersIn}
+use Rattle.candidate_words.specs.Writing.{Fit, numbers-append}
+use Rattle.l0_words.specs.Written.{start}
 
 pub words-length : (i : ℕ) (cs : List Offer) → length (wordsFrom i cs) ≡ 6 * length cs
 unfolding wordsFrom
@@ -101,8 +105,8 @@ module _ (ks : List ℕ) (ts : List Table) where
 pub record Within (tables keys : List ℕ) (trigger : ℕ) (over : List ℕ) : Type 0 where
   pub few : length (tablesOf tables) ≤ 1024
   pub low : levelsOut over ≡ false
-  pub all : lentOffers tables keys trigger over ≡ offersOf keys (tablesOf tables) trigger (entriesOf over)
-  pub fit : Fit start (offersOf keys (tablesOf tables) trigger (entriesOf over))
+  pub all : lentOffers tables keys trigger over ≡ lentL0 tables keys trigger ++ overOffers keys (tablesOf tables) (entriesOf over)
+  pub fit : Fit start (lentL0 tables keys trigger ++ overOffers keys (tablesOf tables) (entriesOf over))
 
 module _ (tables keys : List ℕ) (trigger : ℕ) (over : List ℕ) where
   pub past : pastLimits tables over ≡ true → lentOffers tables keys trigger over ≡ []
@@ -110,9 +114,15 @@ module _ (tables keys : List ℕ) (trigger : ℕ) (over : List ℕ) where
   past e = simp e
 
   pub within : pastLimits tables over ≡ false → Within tables keys trigger over
-  unfolding lentOffers
+  unfolding lentOffers offersOf
   within e =
       let h = neither _ _ e in
       let many = neither _ _ (h .0) in
       let few = ltb-false 1024 (length (tablesOf tables)) (many .0) in
-      record { few = few; low = h .1; all = simp e; fit = all-fit keys (tablesOf tables) few trigger (entriesOf over) (ltb-false 16 _ (many .1)) }
+      let l0 = l0-within tables keys trigger (many .0) in
+      record {
+        few = few;
+        low = h .1;
+        all = simp (e, l0);
+        fit = rw l0 (all-fit keys (tablesOf tables) few trigger (entriesOf over) (ltb-false 16 _ (many .1)));
+      }

@@ -1,9 +1,9 @@
 -- The candidates of a list of tables, as the Rust's `generate_candidates` has them, on lists: filter, stable sort, minimum by number, take. A table goes by its place in the list. Definitions only.
 use Prim.Native.Nat.{ℕ, _+_, min}
-use mathlib.Core.Bool.{Bool, cond, _&&_, _||_}
+use mathlib.Core.Bool.{Bool, cond, _||_}
 use mathlib.Core.List.{List, [], _∷_, _++_}
 use lib.ListN.{length, take, drop}
-use lib.Dec.{leb, ltb}
+use lib.Dec.{ltb}
 use Rattle.records.specs.declared.tables.Table.{Table}
 use Rattle.records.specs.declared.tables.Entry.{Entry}
 use Rattle.records.specs.Tables.{tablesOf, entriesOf}
@@ -13,25 +13,8 @@ use Rattle.levels.specs.Levels.{placesOf, byKey}
 use Rattle.offers.specs.Offers.{seedOf}
 use Rattle.trivial_moves.specs.Moves.{movesOf}
 use Rattle.writers.specs.Writers.{numbersOf, mergedOf}
-
--- a candidate with the numbers of its tables
-pub record Offer : Type 0 where
-  pub kind : ℕ
-  pub level : ℕ
-  pub batchLen : ℕ
-  pub output : ℕ
-  pub numbers : List ℕ
-
-abbrev pub offer : ℕ → ℕ → ℕ → List ℕ → Offer
-offer kind level len ns = record { kind = kind; level = level; batchLen = len; output = level + 1; numbers = ns }
-
--- ---- L0: all of it, if there is any and it reaches the trigger
-
-unfoldable pub l0Offers : List ℕ → List Table → ℕ → List Offer
-l0Offers ks ts trigger =
-    cond (ltb 0 (length (placesOf 0 ts)) && leb trigger (length (placesOf 0 ts)))
-    (offer 1 0 0 (mergedOf ks ts (placesOf 1 ts) (placesOf 0 ts)) ∷ [])
-    []
+use Rattle.l0_words.specs.Words.{Offer, offer}
+use Rattle.l0_words.specs.L0.{l0Offers}
 
 -- ---- a level: batches of a run of places, the first of one table, each of one more, up to eight; then its moves
 

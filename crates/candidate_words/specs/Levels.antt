@@ -19,11 +19,8 @@ use Rattle.faults.specs.Tables.{levelOut, levelsOut}
 use Rattle.offers.specs.declared.batches.Batch.{Batch}
 use Rattle.offers.specs.Offers.{Holds, heldIn}
 use Rattle.writers.specs.Writers.{numbersOf, mergedOf}
-use Rattle.candidate_words.specs.Candidates.{Offer, offer, l0Offers, batchOf, moveOffers, levelOffers, overOffers}
-
-pub l0-due : (ks : List ℕ) (ts : List Table) (trigger n : ℕ) (b : Bool) → n ≡ length (placesOf 0 ts) → b ≡ ltb 0 n && leb trigger n → l0Offers ks ts trigger ≡ cond b (offer 1 0 0 (mergedOf ks ts (placesOf 1 ts) (placesOf 0 ts)) ∷ []) []
-unfolding l0Offers
-l0-due ks ts trigger n b e t = rw (t, e)
+use Rattle.l0_words.specs.Words.{Offer, offer}
+use Rattle.candidate_words.specs.Candidates.{batchOf, moveOffers, levelOffers, overOffers}
 
 -- an over-budget level has a next one
 pub level-low : (over : List ℕ) (i : ℕ) → levelsOut over ≡ false → i < length (entriesOf over) → entryAt (entriesOf over) i .level < 2 ^ 32

@@ -18,7 +18,9 @@ use Rattle.offers.specs.Offers.{seedOf}
 use Rattle.trivial_moves.specs.Moves.{movesOf}
 use Rattle.trivial_moves.specs.Laws.{moves-small}
 use Rattle.writers.specs.Steps.{numbers-length, merged-small}
-use Rattle.candidate_words.specs.Candidates.{Offer, l0Offers, batchOf, moveOffers, levelOffers, overOffers, offersOf}
+use Rattle.l0_words.specs.Words.{Offer}
+use Rattle.l0_words.specs.L0.{l0Offers}
+use Rattle.candidate_words.specs.Candidates.{batchOf, moveOffers, levelOffers, overOffers, offersOf}
 
 -- a kind with its level and its batch length
 pub data Proper : ℕ → ℕ → ℕ → Type 0 where

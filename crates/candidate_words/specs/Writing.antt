@@ -1,4 +1,4 @@
--- Candidates on their way into the two buffers: what stands in both after some of them, and what is left.
+-- Candidates on their way into the two buffers: that they fit, what stands in both after some of them, and what is left.
 use mathlib.Core.Path.{_≡_, refl, ap}
 use mathlib.Core.List.{List, [], _∷_, _++_, append-assoc, append-nil}
 use Prim.Native.Nat.{ℕ, _+_, _≤_, _^_}
@@ -6,27 +6,14 @@ use native.Mathlib.Nat.{add-assoc, add-zero}
 use native.Mathlib.Omega.{arith}
 use lib.ListN.{length, length-append}
 use Rattle.lists.specs.Writes.{Filled, Filling, fill-start, fill-part, fill-end, filled-append}
-use Rattle.candidate_words.specs.declared.ends.Ends.{Ends}
-use Rattle.candidate_words.specs.Candidates.{Offer, offer}
-use Rattle.candidate_words.specs.Words.{wordsFrom, numbersIn}
-
-abbrev pub start : Ends
-start = record { words = 0; numbers = 0 }
+use Rattle.l0_words.specs.declared.Ends.{Ends}
+use Rattle.l0_words.specs.Words.{Offer, offer, wordsFrom, numbersIn}
+use Rattle.l0_words.specs.Written.{Written}
 
 -- the candidates fit from `at` on: no count comes near its type's end
 pub record Fit (at : Ends) (cs : List Offer) : Type 0 where
   pub words : at .words + length (wordsFrom (at .numbers) cs) ≤ 2 ^ 32
   pub numbers : at .numbers + length (numbersIn cs) ≤ 2 ^ 32
-
--- the candidates were written from `at` on
-pub record Written (at : Ends) (cs : List Offer) (c₀ c₁ n₀ n₁ : List ℕ) (end : Ends) : Type 0 where
-  pub words : Filled c₀ (at .words) (wordsFrom (at .numbers) cs) c₁ (end .words)
-  pub numbers : Filled n₀ (at .numbers) (numbersIn cs) n₁ (end .numbers)
-
--- the six words of a candidate with so many numbers were written
-pub record Headed (at : Ends) (kind level len count : ℕ) (c₀ c₁ : List ℕ) (end : Ends) : Type 0 where
-  pub words : Filled c₀ (at .words) (kind ∷ level ∷ len ∷ (level + 1) ∷ at .numbers ∷ count ∷ []) c₁ (end .words)
-  pub numbers : end .numbers ≡ at .numbers + count
 
 -- they are being written, `rest` is left
 pub record Writing (at : Ends) (whole : List Offer) (c₀ n₀ : List ℕ) (end : Ends) (rest : List Offer) (c n : List ℕ) : Type 0 where
@@ -44,17 +31,7 @@ unfolding numbersIn
 numbers-append [] b = refl
 numbers-append (c ∷ a) b = rw (numbers-append a b, append-assoc)
 
-pub written-none : (at : Ends) (c n : List ℕ) → Written at [] c c n n at
-unfolding wordsFrom numbersIn
-written-none at c n = record { words = record { ends = omega arith; stands = refl }; numbers = record { ends = omega arith; stands = refl } }
-
 module _ (at : Ends) (kind level len : ℕ) (ns n₀ n₁ : List ℕ) (count : ℕ) (f : Filled n₀ (at .numbers) ns n₁ (at .numbers + count)) where
-  pub written-one : (c₀ c₁ : List ℕ) (end : Ends) → Headed at kind level len count c₀ c₁ end → Written at (offer kind level len ns ∷ []) c₀ c₁ n₀ n₁ end
-  unfolding wordsFrom numbersIn
-  written-one c₀ c₁ end h =
-      let e : count ≡ length ns = omega (arith, f .ends) in
-      record { words = rw e at (h .words); numbers = rw (append-nil ns, h .numbers) f }
-
   pub fit-one : Fit at (offer kind level len ns ∷ []) → (at .words + 6 ≤ 2 ^ 32) × (at .numbers + count ≤ 2 ^ 32)
   unfolding wordsFrom numbersIn
   fit-one g = (g .words, omega (arith, f .ends, rw (append-nil ns) at (g .numbers)))

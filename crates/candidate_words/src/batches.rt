@@ -2,9 +2,10 @@
 ghost use Prim.Native.Nat.{_<_, _^_};
 ghost use Rattle.records.specs.Tables.{tablesOf};
 ghost use Rattle.candidate_words.specs.Candidates.{batchesOf};
-ghost use Rattle.candidate_words.specs.Writing.{Written, Fit};
-use crate::ends::Ends;
-use crate::ends::put_candidate;
+ghost use Rattle.candidate_words.specs.Writing.{Fit};
+ghost use Rattle.l0_words.specs.Written.{Written};
+use crate::heads::put_candidate;
+use l0_words::Ends;
 use offers::MAX_ADAPTIVE_BATCH;
 use offers::batches::batch_of;
 use offers::batches::smaller;

@@ -1,13 +1,13 @@
 // The candidates for the next merge as words, written to two lent buffers: L0's, then each over-budget level's in order. Nothing is refused: what is past the limits offers nothing, and a word that would stand past a buffer's end is lost, so that a run over empty slices counts.
 ghost use mathlib.Core.Path.{_≡_};
 ghost use Rattle.candidate_words.specs.Candidates.{pastLimits, lentOffers};
-ghost use Rattle.candidate_words.specs.Writing.{Written, start};
-use crate::ends::Ends;
+ghost use Rattle.l0_words.specs.Written.{Written, start};
+use l0_words::Ends;
 use records::tables;
 
 mod batches;
-pub mod ends;
 mod generate;
+mod heads;
 mod moves;
 
 // Too many tables or entries, or a level with none below.
@@ -28,22 +28,14 @@ pub fn put_candidates(
 ) -> Ends
     ensures { λ r. ⌜ Written start (lentOffers (now (tables .entry)) (now (keys .entry)) trigger (now (over .entry))) (now (candidates .entry)) (now (candidates .exit)) (now (numbers .entry)) (now (numbers .exit)) r ⌝ }
 {
-    let start = Ends {
-        words: 0,
-        numbers: 0,
-    };
     if past_limits(tables, over) {
-        return start;
+        return Ends {
+            words: 0,
+            numbers: 0,
+        };
     }
     let n = tables::entry_count(over);
-    let mut end = generate::put_l0(
-        tables,
-        keys,
-        trigger,
-        &mut *candidates,
-        &mut *numbers,
-        start,
-    );
+    let mut end = l0_words::put_l0(tables, keys, trigger, &mut *candidates, &mut *numbers);
     let mut i: usize = 0;
     while i < n {
         let e = tables::entry_at(over, i);

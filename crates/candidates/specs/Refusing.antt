@@ -12,10 +12,10 @@ use Rattle.refusals.specs.Refusals.{noRoom}
 use Rattle.refusals.specs.Checks.{none-found, fault-last}
 use Rattle.lists.specs.Tests.{neither}
 use Rattle.lists.specs.Writes.{sets-front, sets-past}
-use Rattle.candidate_words.specs.declared.ends.Ends.{Ends}
+use Rattle.l0_words.specs.declared.Ends.{Ends}
 use Rattle.candidates.specs.Generate.{GenerateInput, madeOf, candidateWords, numberWords, inputChecks, inputFault, shortOf, generateFault, generatedOf, Answered}
 use Rattle.candidate_words.specs.Candidates.{lentOffers}
-use Rattle.candidate_words.specs.Writing.{Written, start}
+use Rattle.l0_words.specs.Written.{Written, start}
 use Rattle.candidate_words.specs.Bounds.{words-length}
 
 module _ (q : GenerateInput) (room₁ room₂ : ℕ) where

@@ -3,8 +3,8 @@ ghost use mathlib.Core.Path.{_≡_};
 ghost use mathlib.Core.Bool.{_||_};
 ghost use lib.Dec.{ltb};
 ghost use Rattle.candidates.specs.Generate.{generateInput, inputFault, Answered};
-use candidate_words::ends::Ends;
 use candidate_words::put_candidates;
+use l0_words::Ends;
 
 pub struct Generated {
     pub refusal: u64,

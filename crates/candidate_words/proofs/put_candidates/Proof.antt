@@ -5,10 +5,11 @@ use native.Mathlib.Omega.{arith}
 use lib.ListN.{length, drop}
 use denote.Ref.{now}
 use borrow.Author.Needs.{needs}
-use Rattle.candidate_words.specs.Writing.{Writing, written-none, writing-start, writing-part, writing-end, written-append, fit-left, fit-right, fit-rest}
+use Rattle.l0_words.specs.Written.{written-none}
+use Rattle.candidate_words.specs.Writing.{Writing, writing-start, writing-part, writing-end, written-append, fit-left, fit-right, fit-rest}
 use Rattle.candidate_words.specs.Levels.{over-more, over-end, level-low}
 use Rattle.candidate_words.specs.Bounds.{Within, past, within}
-use Rattle.candidate_words.specs.Candidates.{overOffers, offersOf}
+use Rattle.candidate_words.specs.Candidates.{overOffers}
 use Rattle.records.specs.Tables.{tablesOf, entriesOf}
 use Rattle.candidate_words.proofs.put_candidates.Statement.{statement}
 use Rattle.candidate_words.proofs.put_candidates.Tie as tie
@@ -34,8 +35,7 @@ entry-count-requires : tie.Need-entry-count-requires Inv-loop μ-loop
 entry-count-requires c κs = tt
 
 put-l0-requires : tie.Need-put-l0-requires Inv-loop μ-loop
-unfolding offersOf
-put-l0-requires c κs = let w = inside (c .before .before .before) in (w .few, fit-left _ _ _ (w .fit))
+put-l0-requires c κs = tt
 
 loop-holds : tie.Need-loop-holds Inv-loop μ-loop
 loop-holds c = (omega arith, writing-start _ _ _ _)
@@ -47,7 +47,6 @@ add-i : tie.Need-add-i Inv-loop μ-loop
 add-i c = search needs
 
 put-level-requires : tie.Need-put-level-requires Inv-loop μ-loop
-unfolding offersOf
 put-level-requires c κs = let a = c .before .before .before .before .before .before .before .before .before .before .before .before .before .before .before .before .before .before .before .before .args in let l = c .before .before .before .before .loop in let es = entriesOf (now (a .over)) in let h = inside (c .before .before .before .before .before .before .before .before .before .before .before .before .before) in
     let w = rw (over-more (now (a .keys)) (tablesOf (now (a .tables))) es (l .i) (omega arith), ← (c .before .before .entry-at .ensures)) at (l .inv .1) in
     ((h .few, rw (← (c .before .before .entry-at .ensures)) at (level-low (now (a .over)) (l .i) (h .low) (omega arith))), fit-left _ _ _ (fit-rest _ _ _ _ _ _ _ _ (fit-right _ _ _ _ _ _ _ _ (h .fit) (c .before .before .before .before .before .before .before .before .before .put-l0 .ensures)) w))
@@ -67,7 +66,6 @@ same-length-2 : tie.Need-same-length-2 Inv-loop μ-loop
 same-length-2 c = c .before .loop .inv .1 .numbers .same ∙ c .before .before .before .before .before .before .put-l0 .kept .1 .1 .1 .1 .0
 
 returns-2 : tie.Need-returns-2 Inv-loop μ-loop
-unfolding offersOf
 returns-2 c = let a = c .before .before .before .before .before .before .before .before .before .before .before .before .before .before .before .before .before .args in
     rw (inside (c .before .before .before .before .before .before .before .before .before .before) .all) (written-append _ _ _ _ _ _ _ _ _ _ _ (c .before .before .before .before .before .before .put-l0 .ensures) (writing-end _ _ _ _ _ _ _ (rw (over-end (now (a .keys)) (tablesOf (now (a .tables))) (entriesOf (now (a .over))) (c .before .loop .i) (omega arith)) at (c .before .loop .inv .1))))
 

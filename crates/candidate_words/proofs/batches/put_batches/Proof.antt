@@ -5,7 +5,8 @@ use native.Mathlib.Nat.{sub-zero}
 use native.Mathlib.Omega.{arith}
 use denote.Ref.{now}
 use borrow.Author.Needs.{needs}
-use Rattle.candidate_words.specs.Writing.{Writing, writing-start, writing-part, writing-end, written-one, fit-one, fit-left, fit-rest}
+use Rattle.l0_words.specs.Written.{written-one}
+use Rattle.candidate_words.specs.Writing.{Writing, writing-start, writing-part, writing-end, fit-one, fit-left, fit-rest}
 use Rattle.lists.specs.Records.{tabulate}
 use Rattle.candidate_words.specs.Levels.{tabulate-more, batch-held}
 use Rattle.candidate_words.specs.Candidates.{batchOf, batchesOf}

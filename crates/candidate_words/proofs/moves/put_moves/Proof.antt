@@ -8,9 +8,11 @@ use borrow.Author.Needs.{needs}
 use Rattle.offers.specs.Offers.{heldIn}
 use Rattle.records.specs.Tables.{tablesOf}
 use Rattle.writers.specs.Writers.{numbersOf}
-use Rattle.candidate_words.specs.Writing.{fit-one, written-none, written-one}
+use Rattle.l0_words.specs.Written.{written-none, written-one}
+use Rattle.candidate_words.specs.Writing.{fit-one}
 use Rattle.candidate_words.specs.Levels.{moves-some}
-use Rattle.candidate_words.specs.Candidates.{moveOffers, offer}
+use Rattle.l0_words.specs.Words.{offer}
+use Rattle.candidate_words.specs.Candidates.{moveOffers}
 use Rattle.candidate_words.proofs.moves.put_moves.Statement.{statement}
 use Rattle.candidate_words.proofs.moves.put_moves.Tie as tie
 

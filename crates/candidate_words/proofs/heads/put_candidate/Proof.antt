@@ -1,8 +1,8 @@
--- `candidate_words::ends::put_candidate` meets its contract. It is written out so that a wrong word is refused here.
+-- `candidate_words::heads::put_candidate` meets its contract. It is written out so that a wrong word is refused here.
 use mathlib.Core.Path.{refl}
 use borrow.Author.Needs.{needs}
-use Rattle.candidate_words.proofs.ends.put_candidate.Statement.{statement}
-use Rattle.candidate_words.proofs.ends.put_candidate.Tie as tie
+use Rattle.candidate_words.proofs.heads.put_candidate.Statement.{statement}
+use Rattle.candidate_words.proofs.heads.put_candidate.Tie as tie
 
 add-t8 : tie.Need-add-t8
 add-t8 c = search needs

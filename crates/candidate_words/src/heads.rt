@@ -1,11 +1,7 @@
-// Where the next word goes in each of the two lent buffers, and a candidate's six words. A word that would stand past a buffer's end is lost.
+// A candidate's six words. A word that would stand past the buffer's end is lost.
 ghost use Prim.Native.Nat.{_+_, _≤_, _<_, _^_};
-ghost use Rattle.candidate_words.specs.Writing.{Headed};
-
-pub struct Ends {
-    pub words: usize,
-    pub numbers: usize,
-}
+ghost use Rattle.l0_words.specs.Written.{Headed};
+use l0_words::Ends;
 
 // The candidate whose `count` numbers stand from `at` on.
 pub(crate) fn put_candidate(

@@ -1,8 +1,8 @@
--- `candidate_words::generate::due` meets its contract.
+-- `l0_words::due` meets its contract.
 use native.Mathlib.Omega.{arith}
 use borrow.Author.Tests.{lt-ltb}
-use Rattle.candidate_words.proofs.generate.due.Statement.{statement}
-use Rattle.candidate_words.proofs.generate.due.Tie as tie
+use Rattle.l0_words.proofs.due.Statement.{statement}
+use Rattle.l0_words.proofs.due.Tie as tie
 
 returns : tie.Need-returns
 returns c = rw (c .if1 .taken)
