@@ -16,17 +16,16 @@ use Rattle.lists.specs.Records.{tabulate}
 use Rattle.faults.specs.Tables.{levelsOut}
 use Rattle.levels.specs.Levels.{atLevel, placesOf}
 use Rattle.levels.specs.Bounds.{byKey-small}
-use Rattle.l0_words.specs.Words.{Offer}
-use Rattle.l0_words.specs.L0.{l0Offers, lentL0}
-use Rattle.l0_words.specs.Laws.{l0-within}
-use Rattle.candidate_words.specs.Candidates.{batchOf, moveOffers, levelOffers, overOffers, offersOf, pastLimits, lentOffers}
 use Rattle.offers.specs.Offers.{seedOf}
 use Rattle.trivial_moves.specs.Moves.{movesOf}
 use Rattle.trivial_moves.specs.Laws.{moves-small}
 use Rattle.writers.specs.Steps.{numbers-length, merged-small}
-use Rattle.l0_words.specs.Words.{wordsFrom, numbersIn}
-use Rattle.candidate_words.specs.Writing.{Fit, numbers-append}
+use Rattle.l0_words.specs.Words.{Offer, wordsFrom, numbersIn}
+use Rattle.l0_words.specs.L0.{l0Offers, lentL0}
 use Rattle.l0_words.specs.Written.{start}
+use Rattle.l0_words.specs.Laws.{l0-within}
+use Rattle.candidate_words.specs.Candidates.{batchOf, moveOffers, levelOffers, overOffers, offersOf, pastLimits, lentOffers}
+use Rattle.candidate_words.specs.Writing.{Fit, numbers-append}
 
 pub words-length : (i : ℕ) (cs : List Offer) → length (wordsFrom i cs) ≡ 6 * length cs
 unfolding wordsFrom

@@ -1,9 +1,9 @@
 // Batches of up to eight tables that follow each other in key order.
 ghost use Prim.Native.Nat.{_<_, _^_};
 ghost use Rattle.records.specs.Tables.{tablesOf};
+ghost use Rattle.l0_words.specs.Written.{Written};
 ghost use Rattle.candidate_words.specs.Candidates.{batchesOf};
 ghost use Rattle.candidate_words.specs.Writing.{Fit};
-ghost use Rattle.l0_words.specs.Written.{Written};
 use crate::heads::put_candidate;
 use l0_words::Ends;
 use offers::MAX_ADAPTIVE_BATCH;

@@ -1,13 +1,13 @@
 // The candidates for the next merge as words, written to two lent buffers: L0's, then each over-budget level's in order. Nothing is refused: what is past the limits offers nothing, and a word that would stand past a buffer's end is lost, so that a run over empty slices counts.
 ghost use mathlib.Core.Path.{_≡_};
-ghost use Rattle.candidate_words.specs.Candidates.{pastLimits, lentOffers};
 ghost use Rattle.l0_words.specs.Written.{Written, start};
+ghost use Rattle.candidate_words.specs.Candidates.{pastLimits, lentOffers};
 use l0_words::Ends;
 use records::tables;
 
 mod batches;
-mod generate;
 mod heads;
+mod level;
 mod moves;
 
 // Too many tables or entries, or a level with none below.
@@ -40,7 +40,7 @@ pub fn put_candidates(
     while i < n {
         let e = tables::entry_at(over, i);
         i += 1;
-        end = generate::put_level(tables, keys, e.level, &mut *candidates, &mut *numbers, end);
+        end = level::put_level(tables, keys, e.level, &mut *candidates, &mut *numbers, end);
     }
     end
 }

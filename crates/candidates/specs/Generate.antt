@@ -9,9 +9,8 @@ use Rattle.refusals.specs.Refusals.{Check, _gives_, firstFault, none, tooMany, 
 use Rattle.records.specs.Tables.{tablesOf, entriesOf}
 use Rattle.faults.specs.Tables.{tooManyTables, brokenTables, brokenKeys, tooManyEntries, brokenEntries, levelsOut}
 use Rattle.candidates.specs.declared.Generated.{Generated}
-use Rattle.l0_words.specs.Words.{Offer}
+use Rattle.l0_words.specs.Words.{Offer, wordsFrom, numbersIn}
 use Rattle.candidate_words.specs.Candidates.{offersOf}
-use Rattle.l0_words.specs.Words.{wordsFrom, numbersIn}
 
 -- what is lent to the call: table words, key bytes, trigger, over-budget words
 pub record GenerateInput : Type 0 where

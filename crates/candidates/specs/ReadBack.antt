@@ -9,8 +9,7 @@ use lib.ListN.{length, take, drop, length-append}
 use lib.Seq.{take-at, drop-at}
 use Rattle.records.specs.declared.candidate.Candidate.{Candidate}
 use Rattle.records.specs.Candidates.{candidateBy, candidatesOf}
-use Rattle.l0_words.specs.Words.{Offer}
-use Rattle.l0_words.specs.Words.{sixWords, wordsFrom, numbersIn}
+use Rattle.l0_words.specs.Words.{Offer, sixWords, wordsFrom, numbersIn}
 use Rattle.candidates.specs.Generate.{GenerateInput, madeOf, candidateWords, numberWords}
 use Rattle.records.specs.Joined.{records-none, records-cons}
 

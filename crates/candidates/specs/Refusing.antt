@@ -2,7 +2,7 @@
 use mathlib.Core.Path.{_≡_, _∙_}
 use mathlib.Core.Bool.{true, false, cond}
 use mathlib.Core.List.{List, [], _++_}
-use Prim.Native.Nat.{ℕ, _/_, _≤_}
+use Prim.Native.Nat.{ℕ, _/_}
 use native.Mathlib.Omega.{arith}
 use lib.ListN.{length}
 use lib.Seq.{sets}
@@ -13,10 +13,10 @@ use Rattle.refusals.specs.Checks.{none-found, fault-last}
 use Rattle.lists.specs.Tests.{neither}
 use Rattle.lists.specs.Writes.{sets-front, sets-past}
 use Rattle.l0_words.specs.declared.Ends.{Ends}
-use Rattle.candidates.specs.Generate.{GenerateInput, madeOf, candidateWords, numberWords, inputChecks, inputFault, shortOf, generateFault, generatedOf, Answered}
-use Rattle.candidate_words.specs.Candidates.{lentOffers}
 use Rattle.l0_words.specs.Written.{Written, start}
+use Rattle.candidate_words.specs.Candidates.{lentOffers}
 use Rattle.candidate_words.specs.Bounds.{words-length}
+use Rattle.candidates.specs.Generate.{GenerateInput, madeOf, candidateWords, numberWords, inputChecks, inputFault, shortOf, generateFault, generatedOf, Answered}
 
 module _ (q : GenerateInput) (room₁ room₂ : ℕ) where
   fault-room : generateFault q room₁ room₂ ≡ cond (eqb (inputFault (q .tables) (q .keys) (q .over)) 0) (cond (shortOf q room₁ room₂) noRoom 0) (inputFault (q .tables) (q .keys) (q .over))

@@ -1,4 +1,4 @@
--- A candidate with its numbers; candidates as words, six to each, and all their numbers in one list. Definitions only.
+-- A candidate, and candidates as words: six to each, and all their numbers in one list. Definitions only.
 use Prim.Native.Nat.{ℕ, _+_}
 use mathlib.Core.List.{List, [], _∷_, _++_}
 use lib.ListN.{length}

@@ -21,6 +21,7 @@ pub record Headed (at : Ends) (kind level len count : ℕ) (c₀ c₁ : List ℕ
   pub words : Filled c₀ (at .words) (kind ∷ level ∷ len ∷ (level + 1) ∷ at .numbers ∷ count ∷ []) c₁ (end .words)
   pub numbers : end .numbers ≡ at .numbers + count
 
+-- one outcome only
 pub written-decides : (at : Ends) (cs : List Offer) (c₀ c₁ c₂ n₀ n₁ n₂ : List ℕ) (one other : Ends) → Written at cs c₀ c₁ n₀ n₁ one → Written at cs c₀ c₂ n₀ n₂ other → (one ≡ other) × (c₁ ≡ c₂) × (n₁ ≡ n₂)
 written-decides at cs c₀ c₁ c₂ n₀ n₁ n₂ one other p q =
     (λ i. record { words = (p .words .ends ∙ sym (q .words .ends)) i; numbers = (p .numbers .ends ∙ sym (q .numbers .ends)) i }, p .words .stands ∙ sym (q .words .stands), p .numbers .stands ∙ sym (q .numbers .stands))

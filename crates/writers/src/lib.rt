@@ -26,7 +26,7 @@ fn put_numbers(tables: &[u64], places: &[usize], out: &mut [u64], at: usize) -> 
     i
 }
 
-// A batch's tables.
+// A batch's tables, and no others.
 pub fn put_held(tables: &[u64], b: Batch, out: &mut [u64], at: usize) -> usize
     ensures { λ r. ⌜ Filled (now (out .entry)) at (numbersOf (tablesOf (now (tables .entry))) (heldIn b)) (now (out .exit)) (at + r) ⌝ }
 {

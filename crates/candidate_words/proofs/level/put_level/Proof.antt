@@ -1,4 +1,4 @@
--- `candidate_words::generate::put_level` meets its contract. The level and the next stand at the front of their arrays.
+-- `candidate_words::level::put_level` meets its contract. The level and the next stand at the front of their arrays.
 use mathlib.Core.Path.{refl}
 use Prim.Native.Nat.{_+_}
 use native.Mathlib.Omega.{arith}
@@ -9,8 +9,8 @@ use Rattle.records.specs.Tables.{tablesOf}
 use Rattle.levels.specs.Levels.{placesOf, byKey}
 use Rattle.levels.specs.Bounds.{byKey-small, places-front, sorted-front}
 use Rattle.lists.specs.Writes.{Fronted}
-use Rattle.candidate_words.proofs.generate.put_level.Statement.{statement}
-use Rattle.candidate_words.proofs.generate.put_level.Tie as tie
+use Rattle.candidate_words.proofs.level.put_level.Statement.{statement}
+use Rattle.candidate_words.proofs.level.put_level.Tie as tie
 
 -- the level and the next, at the front of their buffers
 first : (c : tie.After-sort-level) → let a = c .before .before .before .before .before .before .args in Fronted (c .sort-level .result) (c .sort-level .last .1 .1 .1 .0) (byKey (now (a .keys)) (tablesOf (now (a .tables))) (a .level))

@@ -1,17 +1,17 @@
-// What a level offers.
+// A level's candidates: its batches, then its moves.
 ghost use Prim.Native.Nat.{_+_, _≤_, _<_, _^_};
 ghost use lib.ListN.{length};
 ghost use Rattle.records.specs.Tables.{tablesOf};
 ghost use Rattle.levels.specs.Levels.{placesOf, byKey};
+ghost use Rattle.l0_words.specs.Written.{Written};
 ghost use Rattle.candidate_words.specs.Candidates.{levelOffers};
 ghost use Rattle.candidate_words.specs.Writing.{Fit};
-ghost use Rattle.l0_words.specs.Written.{Written};
 use crate::batches;
 use crate::moves;
 use faults::limits::MAX_TABLES;
 use l0_words::Ends;
 
-// A level in the order of its first keys, with the next level in table order: its batches, then its moves.
+// The order is that of first keys, the next level's that of the tables.
 fn put_ordered(
     tables: &[u64],
     keys: &[u8],

@@ -1,4 +1,4 @@
--- `candidate_words::generate::put_ordered` meets its contract. The batches begin at the seed; the moves follow.
+-- `candidate_words::level::put_ordered` meets its contract. The batches begin at the seed; the moves follow.
 use mathlib.Core.Path.{_≡_, _∙_}
 use Prim.Native.Nat.{_≤_, _-_}
 use native.Mathlib.Omega.{arith}
@@ -12,8 +12,8 @@ use Rattle.candidate_words.specs.Candidates.{levelOffers}
 use Rattle.records.specs.Tables.{tablesOf}
 use Rattle.candidate_words.specs.Writing.{fit-left, fit-right, written-append}
 use Rattle.offers.specs.Batches.{seed-small}
-use Rattle.candidate_words.proofs.generate.put_ordered.Statement.{statement}
-use Rattle.candidate_words.proofs.generate.put_ordered.Tie as tie
+use Rattle.candidate_words.proofs.level.put_ordered.Statement.{statement}
+use Rattle.candidate_words.proofs.level.put_ordered.Tie as tie
 
 within : (c : tie.After-seed) → c .seed .result ≤ length (now (c .before .before .before .before .before .before .before .args .order))
 within c = rw (c .seed .ensures) (seed-small _ _)
