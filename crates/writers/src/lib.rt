@@ -31,8 +31,8 @@ pub fn put_held(tables: &[u64], b: Batch, out: &mut [u64], at: usize) -> usize
     ensures { λ r. ⌜ Filled (now (out .entry)) at (numbersOf (tablesOf (now (tables .entry))) (heldIn b)) (now (out .exit)) (at + r) ⌝ }
 {
     let places = b.places;
-    let len = smaller(MAX_ADAPTIVE_BATCH, b.len);
-    put_numbers(tables, &places[..len], out, at)
+    let count = smaller(MAX_ADAPTIVE_BATCH, b.len);
+    put_numbers(tables, &places[..count], out, at)
 }
 
 // A batch's tables, then those of the next level that overlap their range.
