@@ -1,5 +1,5 @@
 -- The call `generate_candidates`: its refusals in 01's order, its answer, and every word of the two lent buffers. Definitions only.
-use Prim.Native.Nat.{ℕ, _+_}
+use Prim.Native.Nat.{ℕ}
 use mathlib.Core.Path.{_≡_}
 use mathlib.Core.Bool.{Bool, cond, _||_}
 use mathlib.Core.List.{List, [], _∷_, _++_}
@@ -9,19 +9,8 @@ use Rattle.refusals.specs.Refusals.{Check, _gives_, firstFault, none, tooMany, 
 use Rattle.records.specs.Tables.{tablesOf, entriesOf}
 use Rattle.faults.specs.Tables.{tooManyTables, brokenTables, brokenKeys, tooManyEntries, brokenEntries, levelsOut}
 use Rattle.candidates.specs.declared.Generated.{Generated}
-use Rattle.candidates.specs.Candidates.{Offer, offersOf}
-
--- a candidate's six words, its numbers standing from a place on in the number list
-abbrev pub sixWords : ℕ → Offer → List ℕ
-sixWords start c = c .kind ∷ c .level ∷ c .batchLen ∷ c .output ∷ start ∷ length (c .numbers) ∷ []
-
-unfoldable pub wordsFrom : ℕ → List Offer → List ℕ
-wordsFrom start [] = []
-wordsFrom start (c ∷ cs) = sixWords start c ++ wordsFrom (start + length (c .numbers)) cs
-
-unfoldable pub numbersIn : List Offer → List ℕ
-numbersIn [] = []
-numbersIn (c ∷ cs) = c .numbers ++ numbersIn cs
+use Rattle.l0_words.specs.Words.{Offer, wordsFrom, numbersIn}
+use Rattle.candidate_words.specs.Candidates.{offersOf}
 
 -- what is lent to the call: table words, key bytes, trigger, over-budget words
 pub record GenerateInput : Type 0 where

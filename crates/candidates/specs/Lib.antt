@@ -1,9 +1,5 @@
--- Which merges could be done next, and what the call answers; then the laws by which they are counted and written, what they can be, and how they are read back.
-pub mod Candidates
+-- What the call answers; then how its refusals come together, what an accepted call relies on and offers, and how its words are read back.
 pub mod Generate
-pub mod Writing
-pub mod Levels
-pub mod Bounds
 pub mod Refusing
 pub mod Accepted
 pub mod Offered

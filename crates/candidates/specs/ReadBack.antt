@@ -9,8 +9,8 @@ use lib.ListN.{length, take, drop, length-append}
 use lib.Seq.{take-at, drop-at}
 use Rattle.records.specs.declared.candidate.Candidate.{Candidate}
 use Rattle.records.specs.Candidates.{candidateBy, candidatesOf}
-use Rattle.candidates.specs.Candidates.{Offer}
-use Rattle.candidates.specs.Generate.{GenerateInput, sixWords, wordsFrom, numbersIn, madeOf, candidateWords, numberWords}
+use Rattle.l0_words.specs.Words.{Offer, sixWords, wordsFrom, numbersIn}
+use Rattle.candidates.specs.Generate.{GenerateInput, madeOf, candidateWords, numberWords}
 use Rattle.records.specs.Joined.{records-none, records-cons}
 
 -- the candidate that six words say

@@ -2,7 +2,7 @@
 use mathlib.Core.Path.{_≡_, _∙_}
 use mathlib.Core.Bool.{true, false, cond}
 use mathlib.Core.List.{List, [], _++_}
-use Prim.Native.Nat.{ℕ, _/_, _≤_}
+use Prim.Native.Nat.{ℕ, _/_}
 use native.Mathlib.Omega.{arith}
 use lib.ListN.{length}
 use lib.Seq.{sets}
@@ -10,14 +10,13 @@ use lib.Dec.{eqb}
 use borrow.Author.Tests.{ltb-false, eq-eqb, ne-eqb}
 use Rattle.refusals.specs.Refusals.{noRoom}
 use Rattle.refusals.specs.Checks.{none-found, fault-last}
-use Rattle.records.specs.Tables.{tablesOf, entriesOf}
-use Rattle.faults.specs.Tables.{levelsOut}
 use Rattle.lists.specs.Tests.{neither}
 use Rattle.lists.specs.Writes.{sets-front, sets-past}
-use Rattle.candidates.specs.declared.ends.Ends.{Ends}
+use Rattle.l0_words.specs.declared.Ends.{Ends}
+use Rattle.l0_words.specs.Written.{Written, start}
+use Rattle.candidate_words.specs.Candidates.{lentOffers}
+use Rattle.candidate_words.specs.Bounds.{words-length}
 use Rattle.candidates.specs.Generate.{GenerateInput, madeOf, candidateWords, numberWords, inputChecks, inputFault, shortOf, generateFault, generatedOf, Answered}
-use Rattle.candidates.specs.Writing.{Written, start}
-use Rattle.candidates.specs.Bounds.{words-length}
 
 module _ (q : GenerateInput) (room₁ room₂ : ℕ) where
   fault-room : generateFault q room₁ room₂ ≡ cond (eqb (inputFault (q .tables) (q .keys) (q .over)) 0) (cond (shortOf q room₁ room₂) noRoom 0) (inputFault (q .tables) (q .keys) (q .over))
@@ -58,15 +57,7 @@ module _ (q : GenerateInput) (c₀ n₀ : List ℕ) where
         numbers = simp e (w .numbers .stands ∙ sets-front (numberWords q) n₀ (ltb-false _ _ (room .1)));
       }
 
--- what the writers need of an input in which nothing is wrong
-pub record GoodInput (tables over : List ℕ) : Type 0 where
-  pub few-tables : length (tablesOf tables) ≤ 1024
-  pub few-entries : length (entriesOf over) ≤ 16
-  pub low : levelsOut over ≡ false
-
-pub good-input : (tables keys over : List ℕ) → inputFault tables keys over ≡ 0 → GoodInput tables over
-unfolding inputChecks
-good-input tables keys over e =
-    let f = none-found (inputChecks tables keys over) tt e in
-    let few = neither _ _ (f .0) in
-    record { few-tables = ltb-false 1024 _ (few .0); few-entries = ltb-false 16 _ (few .1); low = f .1 .1 .0 }
+-- of an input in which nothing is wrong all is written
+pub lent-made : (q : GenerateInput) → inputFault (q .tables) (q .keys) (q .over) ≡ 0 → lentOffers (q .tables) (q .keys) (q .trigger) (q .over) ≡ madeOf q
+unfolding inputChecks lentOffers
+lent-made q e = let f = none-found (inputChecks (q .tables) (q .keys) (q .over)) tt e in simp (f .0, f .1 .1 .0)

@@ -3,12 +3,8 @@ ghost use mathlib.Core.Path.{_≡_};
 ghost use mathlib.Core.Bool.{_||_};
 ghost use lib.Dec.{ltb};
 ghost use Rattle.candidates.specs.Generate.{generateInput, inputFault, Answered};
-use crate::ends::Ends;
-
-mod batches;
-mod ends;
-mod generate;
-mod moves;
+use candidate_words::put_candidates;
+use l0_words::Ends;
 
 pub struct Generated {
     pub refusal: u64,
@@ -37,7 +33,7 @@ pub fn generate_candidates(
     }
     let no_words: usize = 0;
     let no_numbers: usize = 0;
-    let need = generate::put_all(
+    let need = put_candidates(
         tables,
         keys,
         l0_compaction_trigger,
@@ -52,7 +48,7 @@ pub fn generate_candidates(
             numbers: 0,
         };
     }
-    let end = generate::put_all(
+    let end = put_candidates(
         tables,
         keys,
         l0_compaction_trigger,

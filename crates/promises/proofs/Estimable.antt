@@ -12,14 +12,15 @@ use Rattle.refusals.specs.Refusals.{_gives_, firstFault, tooLarge, noRoom}
 use Rattle.records.specs.declared.candidate.Candidate.{Candidate}
 use Rattle.faults.specs.Limits.{maxCandidates, maxNumbers, maxBatch, maxLevel}
 use Rattle.candidate_faults.specs.Candidates.{tooManyNumbers, fitsKind, candidateBroken, numbersOut}
-use Rattle.candidates.specs.Candidates.{Offer}
-use Rattle.candidates.specs.Generate.{GenerateInput, numbersIn, madeOf, candidateWords, generateFault}
+use Rattle.l0_words.specs.Words.{Offer, numbersIn}
+use Rattle.candidates.specs.Generate.{GenerateInput, madeOf, candidateWords, generateFault}
 use Rattle.candidates.specs.Accepted.{accepted}
-use Rattle.candidates.specs.Bounds.{words-length}
+use Rattle.candidate_words.specs.Bounds.{words-length}
 use Rattle.estimate_faults.specs.Faults.{estimateFault}
 use Rattle.promises.specs.Rows.{estimating}
 use Rattle.candidates.specs.ReadBack.{candidateOf, candidatesFrom, words-read, candidates-length, candidate-in}
-use Rattle.candidates.specs.Offered.{Proper, l0, batch, move, EachOffered, made-offered, made-few}
+use Rattle.candidate_words.specs.Offered.{Proper, l0, batch, move, EachOffered}
+use Rattle.candidates.specs.Offered.{made-offered, made-few}
 
 -- what is offered fits its kind
 proper-fits : {k l n : ℕ} → Proper k l n → (c : Candidate) → c .kind ≡ k → c .level ≡ l → c .«batch_len» ≡ n → fitsKind c ≡ true

@@ -26,8 +26,10 @@ use Rattle.levels.specs.Levels.{byKey, overlaps}
 use Rattle.offers.specs.Offers.{endFrom, endOf, seedFrom, seedOf}
 use Rattle.trivial_moves.specs.Moves.{isFree, moveBefore, movesOf}
 use Rattle.writers.specs.Writers.{mergedOf}
-use Rattle.candidates.specs.Candidates.{l0Offers, batchOf, moveOffers, levelOffers, overOffers, offersOf}
-use Rattle.candidates.specs.Generate.{wordsFrom, numbersIn, inputChecks, generateFault, generatedOf}
+use Rattle.l0_words.specs.L0.{l0Offers}
+use Rattle.candidate_words.specs.Candidates.{batchOf, moveOffers, levelOffers, overOffers, offersOf}
+use Rattle.l0_words.specs.Words.{wordsFrom, numbersIn}
+use Rattle.candidates.specs.Generate.{inputChecks, generateFault, generatedOf}
 use Rattle.estimates.specs.Estimate.{lookup, bytesOf, oldestFrom, oldestOf, firstShare, estimateOf}
 use Rattle.estimate_faults.specs.Faults.{estimateFault}
 use Rattle.estimates.specs.Estimate.Call.{estimatedOf}

@@ -7,7 +7,7 @@ use lib.Seq.{take-at}
 use borrow.Author.Tests.{eq-eqb}
 use Rattle.refusals.specs.Refusals.{none}
 use Rattle.candidates.specs.declared.Generated.{Generated}
-use Rattle.candidates.specs.Bounds.{words-length}
+use Rattle.candidate_words.specs.Bounds.{words-length}
 use Rattle.candidates.specs.Accepted.{generated-refusal, generated-count}
 use Rattle.candidates.specs.Generate.{GenerateInput, Answered, madeOf, candidateWords, numberWords, generateFault, frontOf}
 use Rattle.estimate_faults.specs.Faults.{EstimateInput, estimateFault}

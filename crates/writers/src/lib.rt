@@ -13,7 +13,7 @@ use offers::batches::smaller;
 use offers::ranges;
 use records::tables::number_at;
 
-pub fn put_numbers(tables: &[u64], places: &[usize], out: &mut [u64], at: usize) -> usize
+fn put_numbers(tables: &[u64], places: &[usize], out: &mut [u64], at: usize) -> usize
     ensures { λ r. ⌜ Filled (now (out .entry)) at (numbersOf (tablesOf (now (tables .entry))) (now (places .entry))) (now (out .exit)) (at + r) ⌝ }
 {
     let from = smaller(at, out.len());
@@ -24,6 +24,15 @@ pub fn put_numbers(tables: &[u64], places: &[usize], out: &mut [u64], at: usize)
         i += 1;
     }
     i
+}
+
+// A batch's tables, and no others.
+pub fn put_held(tables: &[u64], b: Batch, out: &mut [u64], at: usize) -> usize
+    ensures { λ r. ⌜ Filled (now (out .entry)) at (numbersOf (tablesOf (now (tables .entry))) (heldIn b)) (now (out .exit)) (at + r) ⌝ }
+{
+    let places = b.places;
+    let count = smaller(MAX_ADAPTIVE_BATCH, b.len);
+    put_numbers(tables, &places[..count], out, at)
 }
 
 // A batch's tables, then those of the next level that overlap their range.

@@ -6,19 +6,19 @@ use lib.ListN.{length}
 use denote.Ref.{now}
 use borrow.Author.Needs.{needs}
 use Rattle.candidates.specs.Generate.{generateInput, candidateWords, numberWords, inputFault, shortOf}
-use Rattle.candidates.specs.Refusing.{fault-input, fault-short, nothing, answer-refused, answer-given, good-input}
-use Rattle.candidates.specs.Bounds.{all-fit}
+use Rattle.candidates.specs.Refusing.{fault-input, fault-short, nothing, answer-refused, answer-given, lent-made}
 use Rattle.candidates.proofs.generate_candidates.Statement.{statement}
 use Rattle.candidates.proofs.generate_candidates.Tie as tie
 
 -- after the run that counts: nothing is wrong with the input, the counts are known, and no word was written
-counted : (c : tie.After-put-all) → let a = c .before .before .before .before .before .before .before .before .before .before .args in let q = generateInput (now (a .tables)) (now (a .keys)) (a .l0-compaction-trigger) (now (a .over-budget-levels)) in
-    (inputFault (q .tables) (q .keys) (q .over) ≡ 0) × (c .put-all .result .words ≡ length (candidateWords q)) × (c .put-all .result .numbers ≡ length (numberWords q)) × (c .put-all .last .1 .1 .1 .1 .0 ++ now (a .candidates) ≡ now (a .candidates)) × (c .put-all .last .1 .1 .1 .1 .1 .0 ++ now (a .numbers) ≡ now (a .numbers))
+counted : (c : tie.After-put-candidates) → let a = c .before .before .before .before .before .before .before .before .before .before .args in let q = generateInput (now (a .tables)) (now (a .keys)) (a .l0-compaction-trigger) (now (a .over-budget-levels)) in
+    (inputFault (q .tables) (q .keys) (q .over) ≡ 0) × (c .put-candidates .result .words ≡ length (candidateWords q)) × (c .put-candidates .result .numbers ≡ length (numberWords q)) × (c .put-candidates .last .1 .1 .1 .1 .0 ++ now (a .candidates) ≡ now (a .candidates)) × (c .put-candidates .last .1 .1 .1 .1 .1 .0 ++ now (a .numbers) ≡ now (a .numbers))
 counted c =
     let a = c .before .before .before .before .before .before .before .before .before .before .args in
     let q = generateInput (now (a .tables)) (now (a .keys)) (a .l0-compaction-trigger) (now (a .over-budget-levels)) in
-    let w = c .put-all .ensures in
-    (sym (c .before .before .before .before .input-fault .ensures) ∙ c .before .before .before .if1 .left, omega (arith, w .words .ends), omega (arith, w .numbers .ends), nothing (candidateWords q) _ _ (w .words .stands), nothing (numberWords q) _ _ (w .numbers .stands))
+    let clear : inputFault (q .tables) (q .keys) (q .over) ≡ 0 = sym (c .before .before .before .before .input-fault .ensures) ∙ c .before .before .before .if1 .left in
+    let w = rw (lent-made q clear) at (c .put-candidates .ensures) in
+    (clear, omega (arith, w .words .ends), omega (arith, w .numbers .ends), nothing (candidateWords q) _ _ (w .words .stands), nothing (numberWords q) _ _ (w .numbers .stands))
 
 -- the test for room
 tested : (c : tie.After-short) → let a = c .before .before .before .before .before .before .before .before .before .before .before .before .before .before .before .args in let q = generateInput (now (a .tables)) (now (a .keys)) (a .l0-compaction-trigger) (now (a .over-budget-levels)) in
@@ -32,21 +32,20 @@ returns : tie.Need-returns
 returns c = let a = c .before .before .before .before .before .before .before .args in let q = generateInput (now (a .tables)) (now (a .keys)) (a .l0-compaction-trigger) (now (a .over-budget-levels)) in let e = c .before .input-fault .ensures in
     answer-refused q (now (a .candidates)) (now (a .numbers)) _ (fault-input q _ _ (λ z. c .if1 .taken (e ∙ z)) ∙ sym e) (c .if1 .taken)
 
-slice-relend-prefix-put-all : tie.Need-slice-relend-prefix-put-all
-slice-relend-prefix-put-all c = omega arith
+slice-relend-prefix-put-candidates : tie.Need-slice-relend-prefix-put-candidates
+slice-relend-prefix-put-candidates c = omega arith
 
-slice-aggregate-put-all : tie.Need-slice-aggregate-put-all
-slice-aggregate-put-all c = refl
+slice-aggregate-put-candidates : tie.Need-slice-aggregate-put-candidates
+slice-aggregate-put-candidates c = refl
 
-slice-relend-prefix-put-all-2 : tie.Need-slice-relend-prefix-put-all-2
-slice-relend-prefix-put-all-2 c = omega arith
+slice-relend-prefix-put-candidates-2 : tie.Need-slice-relend-prefix-put-candidates-2
+slice-relend-prefix-put-candidates-2 c = omega arith
 
-slice-aggregate-put-all-2 : tie.Need-slice-aggregate-put-all-2
-slice-aggregate-put-all-2 c = refl
+slice-aggregate-put-candidates-2 : tie.Need-slice-aggregate-put-candidates-2
+slice-aggregate-put-candidates-2 c = refl
 
-put-all-requires : tie.Need-put-all-requires
-put-all-requires c κs = let a = c .before .before .before .before .before .before .before .before .before .args in let s = good-input (now (a .tables)) (now (a .keys)) (now (a .over-budget-levels)) (sym (c .before .before .before .input-fault .ensures) ∙ c .before .before .if1 .left) in
-    ((s .few-tables, s .low), all-fit _ _ (s .few-tables) _ _ (s .few-entries))
+put-candidates-requires : tie.Need-put-candidates-requires
+put-candidates-requires c κs = tt
 
 short-requires : tie.Need-short-requires
 short-requires c κs = tt
@@ -61,9 +60,8 @@ returns-2 : tie.Need-returns-2
 returns-2 c = let a = c .before .before .before .before .before .before .before .before .before .before .before .before .before .before .before .before .args in let q = generateInput (now (a .tables)) (now (a .keys)) (a .l0-compaction-trigger) (now (a .over-budget-levels)) in let k = counted (c .before .before .before .before .before .before) in
     rw (k .3, k .4) (answer-refused q (now (a .candidates)) (now (a .numbers)) 9 (fault-short q _ _ (k .0) (sym (tested (c .before)) ∙ c .if2 .taken)) (λ e. absurd (omega arith)))
 
-put-all-requires-2 : tie.Need-put-all-requires-2
-put-all-requires-2 c κs = let a = c .before .before .before .before .before .before .before .before .before .before .before .before .before .before .before .before .before .before .args in let s = good-input (now (a .tables)) (now (a .keys)) (now (a .over-budget-levels)) (counted (c .before .before .before .before .before .before .before .before) .0) in
-    ((s .few-tables, s .low), all-fit _ _ (s .few-tables) _ _ (s .few-entries))
+put-candidates-requires-2 : tie.Need-put-candidates-requires-2
+put-candidates-requires-2 c κs = tt
 
 same-length-3 : tie.Need-same-length-3
 same-length-3 c = search needs
@@ -73,7 +71,7 @@ same-length-4 c = search needs
 
 returns-3 : tie.Need-returns-3
 returns-3 c = let a = c .before .before .before .before .before .before .before .before .before .before .before .before .before .before .before .before .before .before .before .before .before .before .before .before .args in let q = generateInput (now (a .tables)) (now (a .keys)) (a .l0-compaction-trigger) (now (a .over-budget-levels)) in let k = counted (c .before .before .before .before .before .before .before .before .before .before .before .before .before .before) in
-    answer-given q (now (a .candidates)) (now (a .numbers)) _ _ _ (k .0) (sym (tested (c .before .before .before .before .before .before .before .before .before)) ∙ c .before .before .before .before .before .before .before .before .if2 .left) (rw (k .3, k .4) at (c .before .before .before .before .before .put-all2 .ensures))
+    answer-given q (now (a .candidates)) (now (a .numbers)) _ _ _ (k .0) (sym (tested (c .before .before .before .before .before .before .before .before .before)) ∙ c .before .before .before .before .before .before .before .before .if2 .left) (rw (lent-made q (k .0), k .3, k .4) at (c .before .before .before .before .before .put-candidates2 .ensures))
 
 pub generate-candidates-spec : {M : Type 1} → statement M
 generate-candidates-spec =
@@ -81,16 +79,16 @@ generate-candidates-spec =
     (tie.spec
     input-fault-requires
     returns
-    slice-relend-prefix-put-all
-    slice-aggregate-put-all
-    slice-relend-prefix-put-all-2
-    slice-aggregate-put-all-2
-    put-all-requires
+    slice-relend-prefix-put-candidates
+    slice-aggregate-put-candidates
+    slice-relend-prefix-put-candidates-2
+    slice-aggregate-put-candidates-2
+    put-candidates-requires
     short-requires
     same-length
     same-length-2
     returns-2
-    put-all-requires-2
+    put-candidates-requires-2
     same-length-3
     same-length-4
     returns-3)

@@ -1,0 +1,90 @@
+-- `candidate_words::put_candidates` meets its contract. What is left is the candidates of the entries from i on.
+use mathlib.Core.Path.{sym, _∙_}
+use Prim.Native.Nat.{_-_, _≤_}
+use native.Mathlib.Omega.{arith}
+use lib.ListN.{length, drop}
+use denote.Ref.{now}
+use borrow.Author.Needs.{needs}
+use Rattle.l0_words.specs.Written.{written-none}
+use Rattle.candidate_words.specs.Writing.{Writing, writing-start, writing-part, writing-end, written-append, fit-left, fit-right, fit-rest}
+use Rattle.candidate_words.specs.Levels.{over-more, over-end, level-low}
+use Rattle.candidate_words.specs.Bounds.{Within, past, within}
+use Rattle.candidate_words.specs.Candidates.{overOffers}
+use Rattle.records.specs.Tables.{tablesOf, entriesOf}
+use Rattle.candidate_words.proofs.put_candidates.Statement.{statement}
+use Rattle.candidate_words.proofs.put_candidates.Tie as tie
+
+abbrev Inv-loop : tie.InvT-loop
+Inv-loop tables keys trigger over candidates₀ numbers₀ n end₀ i₀ candidates numbers end i = (i ≤ length (entriesOf over)) × Writing end₀ (overOffers keys (tablesOf tables) (entriesOf over)) candidates₀ numbers₀ end (overOffers keys (tablesOf tables) (drop i (entriesOf over))) candidates numbers
+
+abbrev μ-loop : tie.MeasureT-loop
+μ-loop tables keys trigger over candidates₀ numbers₀ n end₀ i₀ candidates numbers end i = length (entriesOf over) - i
+
+-- the limits are kept
+inside : (c : tie.Else1 Inv-loop μ-loop) → let a = c .before .before .before .before .before .before .before .args in Within (now (a .tables)) (now (a .keys)) (a .trigger) (now (a .over))
+inside c = within _ _ _ _ (sym (c .before .past-limits .ensures) ∙ c .if1 .left)
+
+past-limits-requires : tie.Need-past-limits-requires Inv-loop μ-loop
+past-limits-requires c κs = tt
+
+returns : tie.Need-returns Inv-loop μ-loop
+returns c = let a = c .before .before .before .before .before .before .before .args in
+    rw (past (now (a .tables)) (now (a .keys)) (a .trigger) (now (a .over)) (sym (c .before .past-limits .ensures) ∙ c .if1 .taken)) (written-none _ _ _)
+
+entry-count-requires : tie.Need-entry-count-requires Inv-loop μ-loop
+entry-count-requires c κs = tt
+
+put-l0-requires : tie.Need-put-l0-requires Inv-loop μ-loop
+put-l0-requires c κs = tt
+
+loop-holds : tie.Need-loop-holds Inv-loop μ-loop
+loop-holds c = (omega arith, writing-start _ _ _ _)
+
+entry-at-requires : tie.Need-entry-at-requires Inv-loop μ-loop
+entry-at-requires c κs = tt
+
+add-i : tie.Need-add-i Inv-loop μ-loop
+add-i c = search needs
+
+put-level-requires : tie.Need-put-level-requires Inv-loop μ-loop
+put-level-requires c κs = let a = c .before .before .before .before .before .before .before .before .before .before .before .before .before .before .before .before .before .before .before .before .args in let l = c .before .before .before .before .loop in let es = entriesOf (now (a .over)) in let h = inside (c .before .before .before .before .before .before .before .before .before .before .before .before .before) in
+    let w = rw (over-more (now (a .keys)) (tablesOf (now (a .tables))) es (l .i) (omega arith), ← (c .before .before .entry-at .ensures)) at (l .inv .1) in
+    ((h .few, rw (← (c .before .before .entry-at .ensures)) at (level-low (now (a .over)) (l .i) (h .low) (omega arith))), fit-left _ _ _ (fit-rest _ _ _ _ _ _ _ _ (fit-right _ _ _ _ _ _ _ _ (h .fit) (c .before .before .before .before .before .before .before .before .before .put-l0 .ensures)) w))
+
+loop-less : tie.Need-loop-less Inv-loop μ-loop
+loop-less c = search needs
+
+loop-again : tie.Need-loop-again Inv-loop μ-loop
+loop-again c = let a = c .before .before .before .before .before .before .before .before .before .before .before .before .before .before .before .before .before .before .before .before .before .before .before .before .before .args in let l = c .before .before .before .before .before .before .before .before .before .loop in let es = entriesOf (now (a .over)) in
+    let w = rw (over-more (now (a .keys)) (tablesOf (now (a .tables))) es (l .i) (omega arith), ← (c .before .before .before .before .before .before .before .entry-at .ensures)) at (l .inv .1) in
+    (omega arith, writing-part _ _ _ _ _ _ _ _ _ _ _ _ w (c .before .before .before .before .put-level .ensures))
+
+same-length : tie.Need-same-length Inv-loop μ-loop
+same-length c = c .before .loop .inv .1 .words .same ∙ c .before .before .before .before .before .before .put-l0 .kept .1 .1 .1 .0
+
+same-length-2 : tie.Need-same-length-2 Inv-loop μ-loop
+same-length-2 c = c .before .loop .inv .1 .numbers .same ∙ c .before .before .before .before .before .before .put-l0 .kept .1 .1 .1 .1 .0
+
+returns-2 : tie.Need-returns-2 Inv-loop μ-loop
+returns-2 c = let a = c .before .before .before .before .before .before .before .before .before .before .before .before .before .before .before .before .before .args in
+    rw (inside (c .before .before .before .before .before .before .before .before .before .before) .all) (written-append _ _ _ _ _ _ _ _ _ _ _ (c .before .before .before .before .before .before .put-l0 .ensures) (writing-end _ _ _ _ _ _ _ (rw (over-end (now (a .keys)) (tablesOf (now (a .tables))) (entriesOf (now (a .over))) (c .before .loop .i) (omega arith)) at (c .before .loop .inv .1))))
+
+pub put-candidates-spec : {M : Type 1} → statement M
+put-candidates-spec =
+    tie.close
+    (tie.spec
+    Inv-loop
+    μ-loop
+    past-limits-requires
+    returns
+    entry-count-requires
+    put-l0-requires
+    loop-holds
+    entry-at-requires
+    add-i
+    put-level-requires
+    loop-less
+    loop-again
+    same-length
+    same-length-2
+    returns-2)
