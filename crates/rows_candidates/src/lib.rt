@@ -25,7 +25,7 @@ fn generated(
     )
 }
 
-pub fn put_candidates(
+fn put_candidates(
     args: &[u64; WORDS],
     bytes: &[u8],
     numbers: &mut [u64; WORDS],
@@ -40,4 +40,9 @@ pub fn put_candidates(
     out[1] = g.candidates as u64;
     out[2] = g.numbers as u64;
     words::put_list(out, end, words::part(numbers, 0));
+}
+
+pub fn put_answer(args: &[u64; WORDS], bytes: &[u8], out: &mut [u64; WORDS]) {
+    let mut numbers = [0u64; WORDS];
+    put_candidates(args, bytes, &mut numbers, out);
 }

@@ -1,4 +1,4 @@
-// The calls of estimates, scores, choice and the decision that a choice leads to, and that of candidates.
+// The calls of estimates, scores, choice and the decision that a choice leads to.
 ghost use Prim.Native.Nat.{_≤_};
 use arith::floats;
 use choice::Picked;
@@ -115,12 +115,8 @@ fn put_decision(args: &[u64; WORDS], out: &mut [u64; WORDS]) {
     words::put_list(out, 0, &decisions::to_words(d));
 }
 
-pub fn put_answer(call: u64, args: &[u64; WORDS], bytes: &[u8], out: &mut [u64; WORDS]) {
+pub fn put_answer(call: u64, args: &[u64; WORDS], out: &mut [u64; WORDS]) {
     match call {
-        29 => {
-            let mut numbers = [0u64; WORDS];
-            rows_candidates::put_candidates(args, bytes, &mut numbers, out);
-        }
         46 => put_estimates(args, out),
         47 => {
             let vector = states::vector_at(args, 0);
