@@ -1,6 +1,7 @@
 -- `candidate_words::put_candidates` meets its contract. What is left is the candidates of the entries from i on.
 use mathlib.Core.Path.{sym, _∙_}
-use Prim.Native.Nat.{_-_, _≤_}
+use mathlib.Core.List.{_++_}
+use Prim.Native.Nat.{_+_, _-_, _≤_}
 use native.Mathlib.Omega.{arith}
 use lib.ListN.{length, drop}
 use denote.Ref.{now}
@@ -9,8 +10,9 @@ use Rattle.l0_words.specs.Written.{written-none}
 use Rattle.candidate_words.specs.Writing.{Writing, writing-start, writing-part, writing-end, written-append, fit-left, fit-right, fit-rest}
 use Rattle.candidate_words.specs.Levels.{over-more, over-end, level-low}
 use Rattle.candidate_words.specs.Bounds.{Within, past, within}
-use Rattle.candidate_words.specs.Candidates.{overOffers}
+use Rattle.candidate_words.specs.Candidates.{levelOffers, overOffers}
 use Rattle.records.specs.Tables.{tablesOf, entriesOf}
+use Rattle.levels.specs.Levels.{placesOf, byKey}
 use Rattle.candidate_words.proofs.put_candidates.Statement.{statement}
 use Rattle.candidate_words.proofs.put_candidates.Tie as tie
 
@@ -23,6 +25,12 @@ abbrev μ-loop : tie.MeasureT-loop
 -- the limits are kept
 inside : (c : tie.Else1 Inv-loop μ-loop) → let a = c .before .before .before .before .before .before .before .args in Within (now (a .tables)) (now (a .keys)) (a .trigger) (now (a .over))
 inside c = within _ _ _ _ (sym (c .before .past-limits .ensures) ∙ c .if1 .left)
+
+-- the level of the entry that was read is the next to be written
+more : (c : tie.After-entry-at Inv-loop μ-loop) → let a = c .before .before .before .before .before .before .before .before .before .before .before .before .before .before .before .before .before .before .args in let l = c .before .before .loop in let ks = now (a .keys) in let ts = tablesOf (now (a .tables)) in let es = entriesOf (now (a .over)) in let level = c .entry-at .result .level in
+    Writing (c .before .before .before .before .before .before .before .put-l0 .result) (overOffers ks ts es) (c .before .before .before .before .before .before .before .put-l0 .last .1 .1 .1 .0) (c .before .before .before .before .before .before .before .put-l0 .last .1 .1 .1 .1 .0) (l .end) (levelOffers ks ts level (placesOf (level + 1) ts) (byKey ks ts level) ++ overOffers ks ts (drop (l .i + 1) es)) (l .candidates) (l .numbers)
+more c = let a = c .before .before .before .before .before .before .before .before .before .before .before .before .before .before .before .before .before .before .args in let l = c .before .before .loop in
+    rw (over-more (now (a .keys)) (tablesOf (now (a .tables))) (entriesOf (now (a .over))) (l .i) (omega arith), ← (c .entry-at .ensures)) at (l .inv .1)
 
 past-limits-requires : tie.Need-past-limits-requires Inv-loop μ-loop
 past-limits-requires c κs = tt
@@ -47,17 +55,14 @@ add-i : tie.Need-add-i Inv-loop μ-loop
 add-i c = search needs
 
 put-level-requires : tie.Need-put-level-requires Inv-loop μ-loop
-put-level-requires c κs = let a = c .before .before .before .before .before .before .before .before .before .before .before .before .before .before .before .before .before .before .before .before .args in let l = c .before .before .before .before .loop in let es = entriesOf (now (a .over)) in let h = inside (c .before .before .before .before .before .before .before .before .before .before .before .before .before) in
-    let w = rw (over-more (now (a .keys)) (tablesOf (now (a .tables))) es (l .i) (omega arith), ← (c .before .before .entry-at .ensures)) at (l .inv .1) in
-    ((h .few, rw (← (c .before .before .entry-at .ensures)) at (level-low (now (a .over)) (l .i) (h .low) (omega arith))), fit-left _ _ _ (fit-rest _ _ _ _ _ _ _ _ (fit-right _ _ _ _ _ _ _ _ (h .fit) (c .before .before .before .before .before .before .before .before .before .put-l0 .ensures)) w))
+put-level-requires c κs = let h = inside (c .before .before .before .before .before .before .before .before .before .before .before .before .before) in
+    ((h .few, rw (← (c .before .before .entry-at .ensures)) at (level-low _ (c .before .before .before .before .loop .i) (h .low) (omega arith))), fit-left _ _ _ (fit-rest _ _ _ _ _ _ _ _ (fit-right _ _ _ _ _ _ _ _ (h .fit) (c .before .before .before .before .before .before .before .before .before .put-l0 .ensures)) (more (c .before .before))))
 
 loop-less : tie.Need-loop-less Inv-loop μ-loop
 loop-less c = search needs
 
 loop-again : tie.Need-loop-again Inv-loop μ-loop
-loop-again c = let a = c .before .before .before .before .before .before .before .before .before .before .before .before .before .before .before .before .before .before .before .before .before .before .before .before .before .args in let l = c .before .before .before .before .before .before .before .before .before .loop in let es = entriesOf (now (a .over)) in
-    let w = rw (over-more (now (a .keys)) (tablesOf (now (a .tables))) es (l .i) (omega arith), ← (c .before .before .before .before .before .before .before .entry-at .ensures)) at (l .inv .1) in
-    (omega arith, writing-part _ _ _ _ _ _ _ _ _ _ _ _ w (c .before .before .before .before .put-level .ensures))
+loop-again c = (omega arith, writing-part _ _ _ _ _ _ _ _ _ _ _ _ (more (c .before .before .before .before .before .before .before)) (c .before .before .before .before .put-level .ensures))
 
 same-length : tie.Need-same-length Inv-loop μ-loop
 same-length c = c .before .loop .inv .1 .words .same ∙ c .before .before .before .before .before .before .put-l0 .kept .1 .1 .1 .0

@@ -1,5 +1,6 @@
 -- `candidate_words::batches::put_batches` meets its contract. What is left is the batches of more tables than the last.
 use mathlib.Core.Path.{_≡_}
+use mathlib.Core.List.{[], _∷_, _++_}
 use Prim.Native.Nat.{_+_, _-_, _≤_}
 use native.Mathlib.Nat.{sub-zero}
 use native.Mathlib.Omega.{arith}
@@ -11,6 +12,9 @@ use Rattle.lists.specs.Records.{tabulate}
 use Rattle.candidate_words.specs.Levels.{tabulate-more, batch-held}
 use Rattle.candidate_words.specs.Candidates.{batchOf, batchesOf}
 use Rattle.records.specs.Tables.{tablesOf}
+use Rattle.offers.specs.Offers.{heldIn}
+use Rattle.writers.specs.Writers.{mergedOf}
+use Rattle.l0_words.specs.Words.{offer}
 use Rattle.candidate_words.proofs.batches.put_batches.Statement.{statement}
 use Rattle.candidate_words.proofs.batches.put_batches.Tie as tie
 
@@ -19,6 +23,12 @@ Inv-loop tables keys level run next candidates₀ numbers₀ most end₀ len₀ 
 
 abbrev μ-loop : tie.MeasureT-loop
 μ-loop tables keys level run next candidates₀ numbers₀ most end₀ len₀ candidates numbers end len = most - len
+
+-- the batch that was made is the next to be written
+more : (c : tie.After-batch-of Inv-loop μ-loop) → let a = c .before .before .before .before .before .before .before .before .before .before .args in let l = c .before .before .loop in let ks = now (a .keys) in let ts = tablesOf (now (a .tables)) in
+    Writing (a .at) (batchesOf ks ts (a .level) (now (a .next)) (now (a .run))) (now (a .candidates)) (now (a .numbers)) (l .end) ((offer 2 (a .level) (l .len + 1) (mergedOf ks ts (now (a .next)) (heldIn (c .batch-of .result))) ∷ []) ++ tabulate (batchOf ks ts (a .level) (now (a .next)) (now (a .run))) (c .before .before .before .smaller .result - (l .len + 1)) (l .len + 1 + 1)) (l .candidates) (l .numbers)
+more c = let a = c .before .before .before .before .before .before .before .before .before .before .args in let l = c .before .before .loop in let ks = now (a .keys) in let ts = tablesOf (now (a .tables)) in
+    rw (tabulate-more (batchOf ks ts (a .level) (now (a .next)) (now (a .run))) (c .before .before .before .smaller .result) (l .len) (omega arith), batch-held ks ts (a .level) (now (a .next)) (now (a .run)) _ (l .len + 1) (omega (arith, c .before .before .before .smaller .ensures)) (c .batch-of .ensures)) at (l .inv .1)
 
 smaller-requires : tie.Need-smaller-requires Inv-loop μ-loop
 smaller-requires c κs = tt
@@ -36,17 +46,13 @@ put-batch-requires : tie.Need-put-batch-requires Inv-loop μ-loop
 put-batch-requires c κs = tt
 
 put-candidate-requires : tie.Need-put-candidate-requires Inv-loop μ-loop
-put-candidate-requires c κs = let a = c .before .before .before .before .before .before .before .before .before .before .before .before .before .before .before .args in let l = c .before .before .before .before .before .before .before .loop in let ks = now (a .keys) in let ts = tablesOf (now (a .tables)) in
-    let w = rw (tabulate-more (batchOf ks ts (a .level) (now (a .next)) (now (a .run))) (c .before .before .before .before .before .before .before .before .smaller .result) (l .len) (omega arith), batch-held ks ts (a .level) (now (a .next)) (now (a .run)) _ (l .len + 1) (omega (arith, c .before .before .before .before .before .before .before .before .smaller .ensures)) (c .before .before .before .before .before .batch-of .ensures)) at (l .inv .1) in
-    (c .before .before .before .before .before .before .before .before .before .before .before .before .before .before .before .pre .0, fit-one _ _ _ _ _ _ _ _ (c .before .before .before .put-batch .ensures) (fit-left _ _ _ (fit-rest _ _ _ _ _ _ _ _ (c .before .before .before .before .before .before .before .before .before .before .before .before .before .before .before .pre .1) w)))
+put-candidate-requires c κs = (c .before .before .before .before .before .before .before .before .before .before .before .before .before .before .before .pre .0, fit-one _ _ _ _ _ _ _ _ (c .before .before .before .put-batch .ensures) (fit-left _ _ _ (fit-rest _ _ _ _ _ _ _ _ (c .before .before .before .before .before .before .before .before .before .before .before .before .before .before .before .pre .1) (more (c .before .before .before .before .before)))))
 
 loop-less : tie.Need-loop-less Inv-loop μ-loop
 loop-less c = search needs
 
 loop-again : tie.Need-loop-again Inv-loop μ-loop
-loop-again c = let a = c .before .before .before .before .before .before .before .before .before .before .before .before .before .before .before .before .before .before .args in let l = c .before .before .before .before .before .before .before .before .before .before .loop in let ks = now (a .keys) in let ts = tablesOf (now (a .tables)) in
-    let w = rw (tabulate-more (batchOf ks ts (a .level) (now (a .next)) (now (a .run))) (c .before .before .before .before .before .before .before .before .before .before .before .smaller .result) (l .len) (omega arith), batch-held ks ts (a .level) (now (a .next)) (now (a .run)) _ (l .len + 1) (omega (arith, c .before .before .before .before .before .before .before .before .before .before .before .smaller .ensures)) (c .before .before .before .before .before .before .before .before .batch-of .ensures)) at (l .inv .1) in
-    (omega arith, writing-part _ _ _ _ _ _ _ _ _ _ _ _ w (written-one _ _ _ _ _ _ _ _ (c .before .before .before .before .before .before .put-batch .ensures) _ _ _ (c .before .before .put-candidate .ensures)))
+loop-again c = (omega arith, writing-part _ _ _ _ _ _ _ _ _ _ _ _ (more (c .before .before .before .before .before .before .before .before)) (written-one _ _ _ _ _ _ _ _ (c .before .before .before .before .before .before .put-batch .ensures) _ _ _ (c .before .before .put-candidate .ensures)))
 
 same-length : tie.Need-same-length Inv-loop μ-loop
 same-length c = c .before .loop .inv .1 .words .same
