@@ -11,7 +11,7 @@ use Rattle.state.specs.declared.Observed.{Observed}
 use Rattle.kinds.specs.Tuning.{Tuning}
 use Rattle.governor.specs.Observe.{observeFault, acceptedOf, observedOf}
 use Rattle.state.specs.State.{answered}
-use Rattle.governor.specs.Engine.{engineFault, windowOf, sampleOf, engineOf}
+use Rattle.engine.specs.Engine.{engineFault, windowOf, sampleOf, engineOf}
 use Rattle.state.specs.Clock.{timesOf}
 use Rattle.report.specs.declared.snapshot.SnapshotAnswer.the-variants.{Stats, Refused}
 use Rattle.report.specs.Snapshot.{snapshotFault, statsOf, snapshotOf, snapshotRefusal, figures, snapshotNumbers}

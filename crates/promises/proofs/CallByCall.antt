@@ -15,7 +15,7 @@ use Rattle.state.specs.State.{freshOf}
 use Rattle.pressure.specs.Sample.{fractionOf}
 use Rattle.pressure.specs.Pressure.{blendedOf, signalsOf}
 use Rattle.governor.specs.Observe.{acceptedOf}
-use Rattle.governor.specs.Engine.{perGet}
+use Rattle.engine.specs.Engine.{perGet}
 use Rattle.report.specs.Counters.{chosenOf, moveFault, trivialMoveOf, outcomeFault, outcomeOf}
 use Rattle.report.specs.Snapshot.{snapshotOf, snapshotRefusal}
 use Rattle.kinds.specs.declared.kind.CandidateKind.the-variants.{L0, LevelBatch, TrivialMove}

@@ -18,7 +18,7 @@ use Rattle.kinds.specs.Tuning.{Tuning}
 use Rattle.modes.specs.Mode.{differ}
 use Rattle.state.specs.State.{freshOf}
 use Rattle.governor.specs.Observe.{switches, acceptedOf}
-use Rattle.governor.specs.Engine.{sampleOf}
+use Rattle.engine.specs.Engine.{sampleOf}
 use Rattle.report.specs.Counters.{chosenOf, moveFault, trivialMoveOf, outcomeFault, outcomeOf}
 use Rattle.report.specs.Snapshot.{snapshotOf, snapshotRefusal}
 use Rattle.promises.specs.Reading.{Observation, sampled, counted}

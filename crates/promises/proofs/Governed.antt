@@ -9,7 +9,7 @@ use Rattle.kinds.specs.Tuning.{source}
 use Rattle.state.specs.declared.GovernorState.{GovernorState}
 use Rattle.state.specs.State.{freshOf}
 use Rattle.governor.specs.Observe.{observeChecks, observeFault, observedOf}
-use Rattle.governor.specs.Engine.{engineChecks, engineFault, engineOf}
+use Rattle.engine.specs.Engine.{engineChecks, engineFault, engineOf}
 use Rattle.promises.specs.Reading.{Observation, sampled, counted}
 use Rattle.promises.specs.Calls.{Action, observe, answerOf, after, observations}
 use Rattle.promises.specs.Vector.{InUnits, NoneBelow}

@@ -20,7 +20,7 @@ use Rattle.state.specs.State.{freshOf}
 use Rattle.modes.specs.Mode.{switched, soundOf}
 use Rattle.pressure.specs.Pressure.{probedOf}
 use Rattle.governor.specs.Observe.{acceptedOf, observeChecks, observeFault, observedOf}
-use Rattle.governor.specs.Engine.{sampleOf, engineChecks, engineFault, engineOf}
+use Rattle.engine.specs.Engine.{sampleOf, engineChecks, engineFault, engineOf}
 use Rattle.report.specs.Counters.{chosenOf, moveChecks, moveFault, trivialMoveOf, outcomeChecks, outcomeFault, outcomeOf}
 use Rattle.report.specs.Snapshot.{snapshotChecks, snapshotFault}
 use Rattle.promises.specs.Reading.{Observation, sampled, counted, Seen, seenOf}

@@ -12,7 +12,7 @@ use Rattle.state.specs.declared.GovernorState.{GovernorState}
 use Rattle.state.specs.declared.Observed.{Observed}
 use Rattle.state.specs.State.{focusedOf}
 use Rattle.governor.specs.Observe.{observedOf}
-use Rattle.governor.specs.Engine.{engineOf}
+use Rattle.engine.specs.Engine.{engineOf}
 use Rattle.report.specs.Counters.{chosenOf, trivialMoveOf, outcomeOf}
 use Rattle.report.specs.Snapshot.{snapshotOf, snapshotRefusal}
 use Rattle.promises.specs.Reading.{Observation, sampled, counted}

@@ -20,7 +20,7 @@ pub(crate) fn observe_line(s: GovernorState, line: Line) -> Observed
     ensures { λ r. ⌜ r ≡ observeLine s line ⌝ }
 {
     match line {
-        Line::Observation(now, p) => governor::observe::observe(s, now, p),
+        Line::Observation(now, p) => governor::observe(s, now, p),
         Line::None => unchanged(s),
     }
 }

@@ -3,10 +3,8 @@ use crate::lent;
 use crate::states;
 use crate::states::float;
 use arith::floats;
-use governor::engine;
-use governor::engine::EngineSample;
-use governor::engine::ReadAmpStats;
-use governor::observe;
+use engine::EngineSample;
+use engine::ReadAmpStats;
 use kinds::kind::CandidateKind;
 use pressure::PressureSample;
 use pressure::pacing;
@@ -58,7 +56,7 @@ fn read_amp(args: &[u64; WORDS]) -> ReadAmpStats {
 // The call that answers a refusal and a state.
 fn observed(call: u64, s: GovernorState, args: &[u64; WORDS]) -> Observed {
     match call {
-        39 => observe::observe(s, args[28], sample(args)),
+        39 => governor::observe(s, args[28], sample(args)),
         40 => engine::observe_engine(s, args[28], engine_sample(args), read_amp(args)),
         41 => counters::with_trivial_move(s, args[28]),
         42 => counters::with_outcome(s, args[28], args[29]),

@@ -1,4 +1,4 @@
-// The calls of arith, kinds, state, pressure, governor and report.
+// The calls of arith, kinds, state, pressure, governor, engine and report.
 pub mod arithmetic;
 pub mod governed;
 mod lent;
