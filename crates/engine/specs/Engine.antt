@@ -37,20 +37,22 @@ abbrev pub deltasLarge : Window → ReadAmpStats → Bool
 deltasLarge w a = large (probedSince w a) || large (resolvedSince w a)
 
 -- with no resolved gets the old smoothed value is fed in again
-unfoldable pub perGet : GovernorState → ReadAmpStats → Float
-perGet s a =
-    cond (ltb 0 (resolvedSince (s .window) a)) (div binary64 (floatOf (probedSince (s .window) a)) (floatOf (resolvedSince (s .window) a)))
-    (s .signals .«tables_probed_ewma»)
+unfoldable pub perGet : Window → Float → ReadAmpStats → Float
+perGet w smoothed a =
+    cond (ltb 0 (resolvedSince w a)) (div binary64 (floatOf (probedSince w a)) (floatOf (resolvedSince w a))) smoothed
 
-abbrev pub sampleOf : GovernorState → EngineSample → ReadAmpStats → PressureSample
-sampleOf s e a =
+abbrev pub sampleWith : EngineSample → Float → PressureSample
+sampleWith e probed =
     record {
       «l0_count» = e .«l0_count»;
       «l0_write_stall_trigger» = e .«l0_write_stall_trigger»;
       «max_level_debt_ratio» = e .«max_level_debt_ratio»;
-      «tables_probed_per_get» = perGet s a;
+      «tables_probed_per_get» = probed;
       «backlog_levels» = e .«backlog_levels»;
     }
+
+abbrev pub sampleOf : GovernorState → EngineSample → ReadAmpStats → PressureSample
+sampleOf s e a = sampleWith e (perGet (s .window) (s .signals .«tables_probed_ewma») a)
 
 -- 1, 2, 3
 abbrev pub engineChecks : Tuning → GovernorState → ℕ → EngineSample → ReadAmpStats → List Check

@@ -5,10 +5,12 @@ ghost use lib.Dec.{ltb};
 ghost use Rattle.kinds.specs.Tuning.{source};
 ghost use Rattle.counts.specs.Counts.{large};
 ghost use Rattle.engine.specs.Engine.WindowFault.{windowFault};
-ghost use Rattle.engine.specs.Engine.{probedSum, resolvedSum, probedSince, resolvedSince, deltasLarge, perGet, sampleOf, windowOf, engineOf};
+ghost use Rattle.engine.specs.Engine.{probedSum, resolvedSum, probedSince, resolvedSince, deltasLarge, perGet, sampleWith, windowOf, engineOf};
+use kinds::mode::GovernorMode;
 use pressure::PressureSample;
 use state::GovernorState;
 use state::Observed;
+use state::Streaks;
 use state::Window;
 
 pub struct ReadAmpStats {
@@ -66,30 +68,29 @@ fn resolved_since(w: Window, a: ReadAmpStats) -> u64
 }
 
 // Tables probed for each get that a table resolved, since the last observation.
-fn probed_per_get(s: GovernorState, a: ReadAmpStats) -> f64
+fn probed_per_get(w: Window, smoothed: f64, a: ReadAmpStats) -> f64
     requires { ⌜ probedSum a ≤ 2 ^ 64 - 1 ⌝ }
-    ensures { λ r. ⌜ r ≡ perGet s a ⌝ }
+    ensures { λ r. ⌜ r ≡ perGet w smoothed a ⌝ }
 {
-    let resolved = resolved_since(s.window, a);
+    let resolved = resolved_since(w, a);
     if 0 < resolved {
         let probed = counts::saturating_sub(
             a.l0_tables_probed + a.leveled_tables_probed,
-            s.window.last_probed,
+            w.last_probed,
         );
         return arith::whole::of_u64(probed) / arith::whole::of_u64(resolved);
     }
-    s.signals.tables_probed_ewma
+    smoothed
 }
 
-fn sample(s: GovernorState, e: EngineSample, a: ReadAmpStats) -> PressureSample
-    requires { ⌜ probedSum a ≤ 2 ^ 64 - 1 ⌝ }
-    ensures { λ r. ⌜ r ≡ sampleOf s e a ⌝ }
+fn sample(e: EngineSample, tables_probed_per_get: f64) -> PressureSample
+    ensures { λ r. ⌜ r ≡ sampleWith e «tables_probed_per_get» ⌝ }
 {
     PressureSample {
         l0_count: e.l0_count,
         l0_write_stall_trigger: e.l0_write_stall_trigger,
         max_level_debt_ratio: e.max_level_debt_ratio,
-        tables_probed_per_get: probed_per_get(s, a),
+        tables_probed_per_get,
         backlog_levels: e.backlog_levels,
     }
 }
@@ -101,15 +102,20 @@ fn deltas_large(w: Window, a: ReadAmpStats) -> bool
 }
 
 // What refuses the observation before its sample is known.
-fn window_fault(s: GovernorState, e: EngineSample, a: ReadAmpStats) -> u64
-    ensures { λ r. ⌜ r ≡ windowFault source s e a ⌝ }
+fn window_fault(
+    was: GovernorMode,
+    k: Streaks,
+    w: Window,
+    e: EngineSample,
+    a: ReadAmpStats,
+) -> u64
+    ensures { λ r. ⌜ r ≡ windowFault source was k w e a ⌝ }
 {
-    let was = s.mode;
-    if !modes::is_sound(was, s.streaks) {
+    if !modes::is_sound(was, k) {
         return refusals::BAD_STATE;
     }
     let large = counts::any_large(e.l0_count, e.l0_write_stall_trigger, e.backlog_levels);
-    if large | deltas_large(s.window, a) {
+    if large | deltas_large(w, a) {
         return refusals::TOO_LARGE;
     }
     if probe_sum_full(a) {
@@ -128,18 +134,19 @@ fn window_now(a: ReadAmpStats) -> Window
     }
 }
 
-pub fn observe_engine(s: GovernorState, now: u64, e: EngineSample, a: ReadAmpStats) -> Observed
+pub fn observe_engine(mut s: GovernorState, now: u64, e: EngineSample, a: ReadAmpStats) -> Observed
     ensures { λ r. ⌜ r ≡ engineOf source s now e a ⌝ }
 {
-    let refusal = window_fault(s, e, a);
-    if refusal != refusals::NONE {
-        return Observed { refusal, state: s };
+    let was = s.mode;
+    let mut refusal = window_fault(was, s.streaks, s.window, e, a);
+    if refusal == refusals::NONE {
+        let probed = probed_per_get(s.window, s.signals.tables_probed_ewma, a);
+        let o = governor::observe(s, now, sample(e, probed));
+        refusal = o.refusal;
+        if refusal == refusals::NONE {
+            s = o.state;
+            s.window = window_now(a);
+        }
     }
-    let o = governor::observe(s, now, sample(s, e, a));
-    if o.refusal == refusals::NONE {
-        let mut state = o.state;
-        state.window = window_now(a);
-        return Observed { refusal, state };
-    }
-    o
+    Observed { refusal, state: s }
 }

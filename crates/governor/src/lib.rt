@@ -100,7 +100,6 @@ pub fn observe(mut s: GovernorState, now: u64, p: PressureSample) -> Observed
     let refusal = observe_fault(s, now, p);
     if refusal == refusals::NONE {
         s = after_accepted(s, now, p);
-        return Observed { refusal, state: s };
     }
     Observed { refusal, state: s }
 }

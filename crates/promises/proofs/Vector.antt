@@ -22,6 +22,7 @@ use Rattle.kinds.specs.declared.kind.CandidateKind.the-variants.{L0, LevelBatch
 use Rattle.kinds.specs.Tuning.{Tuning, source}
 use Rattle.candidate_faults.specs.Candidates.{inUnit}
 use Rattle.state.specs.declared.GovernorState.{GovernorState}
+use Rattle.state.specs.declared.Window.{Window}
 use Rattle.state.specs.State.{freshOf}
 use Rattle.pressure.specs.Pressure.Range.{Ranged, signals-ranged}
 use Rattle.engine.specs.declared.ReadAmpStats.{ReadAmpStats}
@@ -40,11 +41,10 @@ abbrev RangedIn : GovernorState → Type 0
 RangedIn s = Ranged (s .signals)
 
 -- probes for each get are a quotient of counts, or the smoothed count itself
-per-get : (s : GovernorState) (a : ReadAmpStats) → RangedIn s → lt (perGet s a) f0 ≡ false
+per-get : (w : Window) (smoothed : Float) (a : ReadAmpStats) → lt smoothed f0 ≡ false → lt (perGet w smoothed a) f0 ≡ false
 unfolding perGet
-per-get s a r =
-    let w = s .window in
-    by-test (λ (x : Float). lt x f0 ≡ false) (ltb 0 (resolvedSince w a)) _ _ (λ _. div-not-below binary64 _ _ (clear-not-below _ (float-sign (probedSince w a))) (float-sign (resolvedSince w a))) (λ _. r .probed)
+per-get w smoothed a h =
+    by-test (λ (x : Float). lt x f0 ≡ false) (ltb 0 (resolvedSince w a)) _ _ (λ _. div-not-below binary64 _ _ (clear-not-below _ (float-sign (probedSince w a))) (float-sign (resolvedSince w a))) (λ _. h)
 
 zero : InUnit f0
 unfolding le ofBits
@@ -66,7 +66,7 @@ module _ (G : Tuning) (fraction : Signed false (G .enterFraction)) (probed : Sig
   observes : (s : GovernorState) (now : ℕ) (o : Observation) → RangedIn s → NoneBelow (o ∷ []) → RangedIn (newOf G s now o)
   unfolding acceptedOf
   observes s now (sampled x) r h = signals-ranged G fraction probed (s .signals) x (r .probed) (r .debt) (h .0)
-  observes s now (counted e a) r h = signals-ranged G fraction probed (s .signals) (sampleOf s e a) (r .probed) (r .debt) (per-get s a r)
+  observes s now (counted e a) r h = signals-ranged G fraction probed (s .signals) (sampleOf s e a) (r .probed) (r .debt) (per-get (s .window) _ a (r .probed))
 
   -- a call uses up its own part of the demand on the accepted observations
   abbrev Step : Action → Bool → GovernorState → Type 0

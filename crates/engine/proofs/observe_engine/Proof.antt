@@ -1,53 +1,57 @@
 -- `engine::observe_engine` meets its contract.
-use mathlib.Core.Path.{sym, _∙_}
-use borrow.Author.Tests.{eq-eqb, ne-eqb}
-use Rattle.governor.specs.Observe.{acceptedOf, observedOf}
 use Rattle.kinds.specs.Tuning.{source}
-use Rattle.engine.specs.Engine.WindowFault.{engine-fault, sum-fits}
-use Rattle.engine.specs.Engine.{engineOf}
+use Rattle.engine.specs.Engine.WindowFault.{sum-fits, refused-before, refused, accepted}
 use Rattle.engine.proofs.observe_engine.Statement.{statement}
 use Rattle.engine.proofs.observe_engine.Tie as tie
 
 window-fault-requires : tie.Need-window-fault-requires
 window-fault-requires c κs = tt
 
-returns : tie.Need-returns
-unfolding engineOf
-returns c = simp (engine-fault, ← c .before .window-fault .ensures, ne-eqb _ _ (c .if1 .taken))
+probed-per-get-requires : tie.Need-probed-per-get-requires
+probed-per-get-requires c κs =
+    let x = c .before .before .args in
+    sum-fits source (x .s) (x .now) (x .e) (x .a) (c .before .window-fault .result) (c .before .window-fault .ensures) (c .if1 .taken)
 
 sample-requires : tie.Need-sample-requires
-sample-requires c κs = sum-fits source (c .before .before .args .s) (c .before .before .args .e) (c .before .before .args .a) (sym (c .before .window-fault .ensures) ∙ c .if1 .left)
+sample-requires c κs = tt
 
 observe-requires : tie.Need-observe-requires
 observe-requires c κs = tt
 
 window-now-requires : tie.Need-window-now-requires
 window-now-requires c κs =
-    let i = c .before .before .before .before .before .before in
-    sum-fits source (i .before .args .s) (i .before .args .e) (i .before .args .a) (sym (i .window-fault .ensures) ∙ c .before .before .before .before .before .if1 .left)
+    let i = c .before .before .before .before .before in
+    let x = i .before .before .args in
+    sum-fits source (x .s) (x .now) (x .e) (x .a) (i .before .window-fault .result) (i .before .window-fault .ensures) (i .if1 .taken)
+
+returns : tie.Need-returns
+returns c =
+    let o = c .before .before .before in
+    let i = o .before .before .before in
+    let x = i .before .before .args in
+    simp (c .window-now .ensures) (accepted source (x .s) (x .now) (x .e) (x .a) (i .before .window-fault .result) (i .before .window-fault .ensures) (o .observe .result) (simp (o .before .sample .ensures, o .before .before .probed-per-get .ensures) at (o .observe .ensures)) (i .if1 .taken) (c .before .before .if2 .taken))
 
 returns-2 : tie.Need-returns-2
-unfolding engineOf observedOf acceptedOf
 returns-2 c =
-    let i = c .before .before .before .before in
-    let w = i .before .before .before in
-    simp (engine-fault, ← w .window-fault .ensures, i .before .before .if1 .left, i .observe .ensures, i .before .sample .ensures, c .window-now .ensures, simp (i .observe .ensures, i .before .sample .ensures) at (c .before .before .if2 .taken))
+    let o = c .before in
+    let i = o .before .before .before in
+    let x = i .before .before .args in
+    refused source (x .s) (x .now) (x .e) (x .a) (i .before .window-fault .result) (i .before .window-fault .ensures) (o .observe .result) (simp (o .before .sample .ensures, o .before .before .probed-per-get .ensures) at (o .observe .ensures)) (i .if1 .taken) (c .if2 .left)
 
 returns-3 : tie.Need-returns-3
-unfolding engineOf observedOf
 returns-3 c =
-    let i = c .before .before in
-    let w = i .before .before .before in
-    simp (engine-fault, ← w .window-fault .ensures, i .before .before .if1 .left, i .observe .ensures, i .before .sample .ensures, ne-eqb _ _ (simp (i .observe .ensures, i .before .sample .ensures) at (c .if2 .left)))
+    let x = c .before .before .args in
+    refused-before source (x .s) (x .now) (x .e) (x .a) (c .before .window-fault .result) (c .before .window-fault .ensures) (c .if1 .left)
 
 pub observe-engine-spec : {M : Type 1} → statement M
 observe-engine-spec =
     tie.close
     (tie.spec
     window-fault-requires
-    returns
+    probed-per-get-requires
     sample-requires
     observe-requires
     window-now-requires
+    returns
     returns-2
     returns-3)

@@ -5,42 +5,62 @@ use mathlib.Core.Bool.{Bool, true, false, cond, not, _||_}
 use mathlib.Core.List.{List, [], _∷_}
 use Prim.Native.Nat.{ℕ, _-_, _^_, _≤_}
 use lib.Dec.{ltb, eqb}
-use borrow.Author.Tests.{ltb-false}
+use borrow.Author.Tests.{ltb-false, ne-eqb}
 use Rattle.counts.specs.Counts.{anyLarge}
 use Rattle.refusals.specs.Refusals.{Check, _gives_, firstFault, none, badState, tooLarge, counterFull}
 use Rattle.refusals.specs.Checks.{none-found}
 use Rattle.kinds.specs.Tuning.{Tuning}
 use Rattle.modes.specs.Mode.{soundOf}
+use Rattle.kinds.specs.declared.mode.GovernorMode.{GovernorMode}
+use Rattle.state.specs.declared.Streaks.{Streaks}
+use Rattle.state.specs.declared.Window.{Window}
 use Rattle.state.specs.declared.GovernorState.{GovernorState}
-use Rattle.governor.specs.Observe.{countersFull, observeFault}
+use Rattle.state.specs.declared.Observed.{Observed}
+use Rattle.governor.specs.Observe.{countersFull, observeFault, acceptedOf, observedOf}
 use Rattle.engine.specs.declared.EngineSample.{EngineSample}
 use Rattle.engine.specs.declared.ReadAmpStats.{ReadAmpStats}
-use Rattle.engine.specs.Engine.{probedSum, deltasLarge, sampleOf, engineFault}
+use Rattle.engine.specs.Engine.{probedSum, deltasLarge, sampleOf, windowOf, engineFault, engineOf}
 
-abbrev pub windowChecks : Tuning → GovernorState → EngineSample → ReadAmpStats → List Check
-windowChecks G s e a =
-    not (soundOf G (s .mode) (s .streaks)) gives badState
-    ∷ (anyLarge (e .«l0_count») (e .«l0_write_stall_trigger») (e .«backlog_levels») || deltasLarge (s .window) a) gives tooLarge
+abbrev pub windowChecks : Tuning → GovernorMode → Streaks → Window → EngineSample → ReadAmpStats → List Check
+windowChecks G m k w e a =
+    not (soundOf G m k) gives badState
+    ∷ (anyLarge (e .«l0_count») (e .«l0_write_stall_trigger») (e .«backlog_levels») || deltasLarge w a) gives tooLarge
     ∷ ltb (2 ^ 64 - 1) (probedSum a) gives counterFull
     ∷ []
 
-unfoldable pub windowFault : Tuning → GovernorState → EngineSample → ReadAmpStats → ℕ
-windowFault G s e a = firstFault (windowChecks G s e a)
+unfoldable pub windowFault : Tuning → GovernorMode → Streaks → Window → EngineSample → ReadAmpStats → ℕ
+windowFault G m k w e a = firstFault (windowChecks G m k w e a)
 
--- the numbers of both lists are 1, 2, 3, so what the window refuses comes first
-pub engine-fault : (G : Tuning) (s : GovernorState) (now : ℕ) (e : EngineSample) (a : ReadAmpStats)
-    → engineFault G s now e a ≡ cond (eqb (windowFault G s e a) none) (observeFault G s now (sampleOf s e a)) (windowFault G s e a)
-unfolding engineFault windowFault observeFault
-engine-fault G s now e a =
-    go (not (soundOf G (s .mode) (s .streaks))) (anyLarge (e .«l0_count») (e .«l0_write_stall_trigger») (e .«backlog_levels»)) (deltasLarge (s .window) a) (ltb (2 ^ 64 - 1) (probedSum a)) (countersFull G s now (sampleOf s e a))
-  where
-    go : (u l d f c : Bool) → firstFault (u gives badState ∷ (l || d) gives tooLarge ∷ (f || c) gives counterFull ∷ []) ≡ cond (eqb (firstFault (u gives badState ∷ (l || d) gives tooLarge ∷ f gives counterFull ∷ [])) none) (firstFault (u gives badState ∷ l gives tooLarge ∷ c gives counterFull ∷ [])) (firstFault (u gives badState ∷ (l || d) gives tooLarge ∷ f gives counterFull ∷ []))
-    go true l d f c = refl
-    go false true d f c = refl
-    go false false true f c = refl
-    go false false false true c = refl
-    go false false false false c = refl
+module _ (G : Tuning) (s : GovernorState) (now : ℕ) (e : EngineSample) (a : ReadAmpStats) (fault : ℕ) (known : fault ≡ windowFault G (s .mode) (s .streaks) (s .window) e a) where
+  pub sum-fits : fault ≡ none → probedSum a ≤ 2 ^ 64 - 1
+  unfolding windowFault
+  sum-fits h = ltb-false (2 ^ 64 - 1) (probedSum a) (none-found (windowChecks G (s .mode) (s .streaks) (s .window) e a) tt (rw known at h) .1 .1 .0)
 
-pub sum-fits : (G : Tuning) (s : GovernorState) (e : EngineSample) (a : ReadAmpStats) → windowFault G s e a ≡ none → probedSum a ≤ 2 ^ 64 - 1
-unfolding windowFault
-sum-fits G s e a h = ltb-false (2 ^ 64 - 1) (probedSum a) (none-found (windowChecks G s e a) tt h .1 .1 .0)
+  -- both lists have 1, 2 and 3 at the same places, so what the window refuses comes first
+  engine-fault : engineFault G s now e a ≡ cond (eqb fault none) (observeFault G s now (sampleOf s e a)) fault
+  unfolding engineFault windowFault observeFault
+  engine-fault =
+      rw known
+      (go (not (soundOf G (s .mode) (s .streaks))) (anyLarge (e .«l0_count») (e .«l0_write_stall_trigger») (e .«backlog_levels»)) (deltasLarge (s .window) a) (ltb (2 ^ 64 - 1) (probedSum a)) (countersFull G s now (sampleOf s e a)))
+    where
+      go : (u l d f c : Bool) → firstFault (u gives badState ∷ (l || d) gives tooLarge ∷ (f || c) gives counterFull ∷ []) ≡ cond (eqb (firstFault (u gives badState ∷ (l || d) gives tooLarge ∷ f gives counterFull ∷ [])) none) (firstFault (u gives badState ∷ l gives tooLarge ∷ c gives counterFull ∷ [])) (firstFault (u gives badState ∷ (l || d) gives tooLarge ∷ f gives counterFull ∷ []))
+      go true l d f c = refl
+      go false true d f c = refl
+      go false false true f c = refl
+      go false false false true c = refl
+      go false false false false c = refl
+
+  pub refused-before : (fault ≡ none → ⊥) → record { refusal = fault; state = s } ≡ engineOf G s now e a
+  unfolding engineOf
+  refused-before h = simp (engine-fault, ne-eqb fault none h)
+
+  module _ (o : Observed) (answer : o ≡ observedOf G s now (sampleOf s e a)) (h : fault ≡ none) where
+    pub refused : (o .refusal ≡ none → ⊥) → record { refusal = o .refusal; state = s } ≡ engineOf G s now e a
+    unfolding engineOf observedOf
+    refused r = simp (engine-fault, h, answer, ne-eqb _ none (rw answer at r))
+
+    -- where `observe` accepts, only the window is another
+    pub accepted : o .refusal ≡ none
+        → record { refusal = o .refusal; state = record { mode = o .state .mode; signals = o .state .signals; focus = o .state .focus; streaks = o .state .streaks; times = o .state .times; window = windowOf a; counters = o .state .counters } } ≡ engineOf G s now e a
+    unfolding engineOf observedOf acceptedOf
+    accepted r = simp (engine-fault, h, answer, rw answer at r)
