@@ -102,13 +102,7 @@ fn deltas_large(w: Window, a: ReadAmpStats) -> bool
 }
 
 // What refuses the observation before its sample is known.
-fn window_fault(
-    was: GovernorMode,
-    k: Streaks,
-    w: Window,
-    e: EngineSample,
-    a: ReadAmpStats,
-) -> u64
+fn window_fault(was: GovernorMode, k: Streaks, w: Window, e: EngineSample, a: ReadAmpStats) -> u64
     ensures { λ r. ⌜ r ≡ windowFault source was k w e a ⌝ }
 {
     if !modes::is_sound(was, k) {
