@@ -38,8 +38,8 @@ deltasLarge w a = large (probedSince w a) || large (resolvedSince w a)
 
 -- with no resolved gets the old smoothed value is fed in again
 unfoldable pub perGet : Window → Float → ReadAmpStats → Float
-perGet w smoothed a =
-    cond (ltb 0 (resolvedSince w a)) (div binary64 (floatOf (probedSince w a)) (floatOf (resolvedSince w a))) smoothed
+perGet w «tables_probed_ewma» a =
+    cond (ltb 0 (resolvedSince w a)) (div binary64 (floatOf (probedSince w a)) (floatOf (resolvedSince w a))) «tables_probed_ewma»
 
 abbrev pub sampleWith : EngineSample → Float → PressureSample
 sampleWith e probed =

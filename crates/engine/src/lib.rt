@@ -68,9 +68,9 @@ fn resolved_since(w: Window, a: ReadAmpStats) -> u64
 }
 
 // Tables probed for each get that a table resolved, since the last observation.
-fn probed_per_get(w: Window, smoothed: f64, a: ReadAmpStats) -> f64
+fn probed_per_get(w: Window, tables_probed_ewma: f64, a: ReadAmpStats) -> f64
     requires { ⌜ probedSum a ≤ 2 ^ 64 - 1 ⌝ }
-    ensures { λ r. ⌜ r ≡ perGet w smoothed a ⌝ }
+    ensures { λ r. ⌜ r ≡ perGet w «tables_probed_ewma» a ⌝ }
 {
     let resolved = resolved_since(w, a);
     if 0 < resolved {
@@ -80,7 +80,7 @@ fn probed_per_get(w: Window, smoothed: f64, a: ReadAmpStats) -> f64
         );
         return arith::whole::of_u64(probed) / arith::whole::of_u64(resolved);
     }
-    smoothed
+    tables_probed_ewma
 }
 
 fn sample(e: EngineSample, tables_probed_per_get: f64) -> PressureSample

@@ -29,14 +29,16 @@ returns c =
     let o = c .before .before .before in
     let i = o .before .before .before in
     let x = i .before .before .args in
-    simp (c .window-now .ensures) (accepted source (x .s) (x .now) (x .e) (x .a) (i .before .window-fault .result) (i .before .window-fault .ensures) (o .observe .result) (simp (o .before .sample .ensures, o .before .before .probed-per-get .ensures) at (o .observe .ensures)) (i .if1 .taken) (c .before .before .if2 .taken))
+    accepted source (x .s) (x .now) (x .e) (x .a) (i .before .window-fault .result) (i .before .window-fault .ensures) (i .if1 .taken)
+    (o .observe .result) (simp (o .before .sample .ensures, o .before .before .probed-per-get .ensures) at (o .observe .ensures)) (c .before .before .if2 .taken) (c .window-now .result) (c .window-now .ensures)
 
 returns-2 : tie.Need-returns-2
 returns-2 c =
     let o = c .before in
     let i = o .before .before .before in
     let x = i .before .before .args in
-    refused source (x .s) (x .now) (x .e) (x .a) (i .before .window-fault .result) (i .before .window-fault .ensures) (o .observe .result) (simp (o .before .sample .ensures, o .before .before .probed-per-get .ensures) at (o .observe .ensures)) (i .if1 .taken) (c .if2 .left)
+    refused source (x .s) (x .now) (x .e) (x .a) (i .before .window-fault .result) (i .before .window-fault .ensures) (i .if1 .taken)
+    (o .observe .result) (simp (o .before .sample .ensures, o .before .before .probed-per-get .ensures) at (o .observe .ensures)) (c .if2 .left)
 
 returns-3 : tie.Need-returns-3
 returns-3 c =

@@ -31,36 +31,37 @@ windowChecks G m k w e a =
 unfoldable pub windowFault : Tuning → GovernorMode → Streaks → Window → EngineSample → ReadAmpStats → ℕ
 windowFault G m k w e a = firstFault (windowChecks G m k w e a)
 
+abbrev inOrder : Bool → Bool → Bool → ℕ
+inOrder bad large full = firstFault (bad gives badState ∷ large gives tooLarge ∷ full gives counterFull ∷ [])
+
+-- the window's checks and then those of `observe` find the same as all of them in one list
+one-after-other : (u l d f c : Bool) → inOrder u (l || d) (f || c) ≡ cond (eqb (inOrder u (l || d) f) none) (inOrder u l c) (inOrder u (l || d) f)
+one-after-other true l d f c = refl
+one-after-other false true d f c = refl
+one-after-other false false true f c = refl
+one-after-other false false false true c = refl
+one-after-other false false false false c = refl
+
 module _ (G : Tuning) (s : GovernorState) (now : ℕ) (e : EngineSample) (a : ReadAmpStats) (fault : ℕ) (known : fault ≡ windowFault G (s .mode) (s .streaks) (s .window) e a) where
   pub sum-fits : fault ≡ none → probedSum a ≤ 2 ^ 64 - 1
   unfolding windowFault
   sum-fits h = ltb-false (2 ^ 64 - 1) (probedSum a) (none-found (windowChecks G (s .mode) (s .streaks) (s .window) e a) tt (rw known at h) .1 .1 .0)
 
-  -- both lists have 1, 2 and 3 at the same places, so what the window refuses comes first
   engine-fault : engineFault G s now e a ≡ cond (eqb fault none) (observeFault G s now (sampleOf s e a)) fault
   unfolding engineFault windowFault observeFault
-  engine-fault =
-      rw known
-      (go (not (soundOf G (s .mode) (s .streaks))) (anyLarge (e .«l0_count») (e .«l0_write_stall_trigger») (e .«backlog_levels»)) (deltasLarge (s .window) a) (ltb (2 ^ 64 - 1) (probedSum a)) (countersFull G s now (sampleOf s e a)))
-    where
-      go : (u l d f c : Bool) → firstFault (u gives badState ∷ (l || d) gives tooLarge ∷ (f || c) gives counterFull ∷ []) ≡ cond (eqb (firstFault (u gives badState ∷ (l || d) gives tooLarge ∷ f gives counterFull ∷ [])) none) (firstFault (u gives badState ∷ l gives tooLarge ∷ c gives counterFull ∷ [])) (firstFault (u gives badState ∷ (l || d) gives tooLarge ∷ f gives counterFull ∷ []))
-      go true l d f c = refl
-      go false true d f c = refl
-      go false false true f c = refl
-      go false false false true c = refl
-      go false false false false c = refl
+  engine-fault = rw known (one-after-other (not (soundOf G (s .mode) (s .streaks))) (anyLarge (e .«l0_count») (e .«l0_write_stall_trigger») (e .«backlog_levels»)) (deltasLarge (s .window) a) (ltb (2 ^ 64 - 1) (probedSum a)) (countersFull G s now (sampleOf s e a)))
 
   pub refused-before : (fault ≡ none → ⊥) → record { refusal = fault; state = s } ≡ engineOf G s now e a
   unfolding engineOf
   refused-before h = simp (engine-fault, ne-eqb fault none h)
 
-  module _ (o : Observed) (answer : o ≡ observedOf G s now (sampleOf s e a)) (h : fault ≡ none) where
+  module _ (h : fault ≡ none) (o : Observed) (answer : o ≡ observedOf G s now (sampleOf s e a)) where
     pub refused : (o .refusal ≡ none → ⊥) → record { refusal = o .refusal; state = s } ≡ engineOf G s now e a
     unfolding engineOf observedOf
     refused r = simp (engine-fault, h, answer, ne-eqb _ none (rw answer at r))
 
     -- where `observe` accepts, only the window is another
-    pub accepted : o .refusal ≡ none
-        → record { refusal = o .refusal; state = record { mode = o .state .mode; signals = o .state .signals; focus = o .state .focus; streaks = o .state .streaks; times = o .state .times; window = windowOf a; counters = o .state .counters } } ≡ engineOf G s now e a
+    pub accepted : o .refusal ≡ none → (w : Window) → w ≡ windowOf a
+        → record { refusal = o .refusal; state = record { mode = o .state .mode; signals = o .state .signals; focus = o .state .focus; streaks = o .state .streaks; times = o .state .times; window = w; counters = o .state .counters } } ≡ engineOf G s now e a
     unfolding engineOf observedOf acceptedOf
-    accepted r = simp (engine-fault, h, answer, rw answer at r)
+    accepted r w new = simp (engine-fault, h, answer, rw answer at r, new)
