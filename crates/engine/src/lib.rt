@@ -101,7 +101,7 @@ fn deltas_large(w: Window, a: ReadAmpStats) -> bool
     probed_large(w, a) | counts::is_large(resolved_since(w, a))
 }
 
-// What refuses the observation before its sample is known.
+// What refuses the observation before its sample is known; 1 and the counts are tested here too, since both come before a full sum.
 fn window_fault(was: GovernorMode, k: Streaks, w: Window, e: EngineSample, a: ReadAmpStats) -> u64
     ensures { λ r. ⌜ r ≡ windowFault source was k w e a ⌝ }
 {
