@@ -1,4 +1,4 @@
--- 01 (a), of each public call here: two outcomes that its contract allows are the same.
+-- Two outcomes that the contract of this room's door allows are the same, as 01 (a) asks of calls.
 use mathlib.Core.Path.{_≡_}
 use denote.Ref.{now}
 use Rattle.l0_words.specs.Written.{written-decides}

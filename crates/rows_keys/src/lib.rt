@@ -1,4 +1,4 @@
-// The calls that are asked of keys. The byte lists of a question stand one behind the other.
+// The calls of keys, with `first_key`, `last_key`, `broken_keys` and `overlaps_at`. The byte lists of a question stand one behind the other.
 ghost use Prim.Native.Nat.{_≤_};
 use keys::Order;
 use records::tables;
