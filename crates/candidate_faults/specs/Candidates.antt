@@ -7,9 +7,9 @@ use lib.Dec.{leb, ltb, eqb}
 use lib.Ieee.{Float, le}
 use Rattle.arith.specs.Floats.{f0, f1}
 use Rattle.lists.specs.Any.{anyOf}
-use Rattle.records.specs.declared.candidate.Candidate.{Candidate}
-use Rattle.records.specs.declared.candidate.CandidateEstimate.{CandidateEstimate}
-use Rattle.records.specs.Candidates.{candidatesOf}
+use Rattle.candidate_records.specs.declared.Candidate.{Candidate}
+use Rattle.candidate_records.specs.declared.CandidateEstimate.{CandidateEstimate}
+use Rattle.candidate_records.specs.Candidates.{candidatesOf}
 use Rattle.faults.specs.Limits.{maxCandidates, maxNumbers, maxBatch, maxLevel, maxRewrite, maxAge}
 use Rattle.faults.specs.Tables.{partOut}
 

@@ -2,28 +2,27 @@
 ghost use mathlib.Core.Path.{_≡_};
 ghost use mathlib.Core.Bool.{_&&_};
 ghost use Rattle.lists.specs.Any.{anyOf};
-ghost use Rattle.records.specs.Candidates.{candidatesOf, estimatesOf};
+ghost use Rattle.candidate_records.specs.Candidates.{candidatesOf, estimatesOf};
 ghost use Rattle.candidate_faults.specs.Candidates.{tooManyCandidates, tooManyNumbers, fitsKind, numbersOut, brokenCandidates, inUnit, estimateOut};
+use candidate_records::Candidate;
 use faults::limits;
 use faults::tables::part_out;
-use records::candidate;
-use records::candidate::Candidate;
 
 pub fn too_many_candidates(candidates: &[u64]) -> bool
     ensures { λ r. ⌜ r ≡ tooManyCandidates (now (candidates .entry)) ⌝ }
 {
-    limits::MAX_CANDIDATES < candidate::candidate_count(candidates)
+    limits::MAX_CANDIDATES < candidate_records::candidate_count(candidates)
 }
 
 // Some candidate has too many numbers.
 pub fn too_many_numbers(candidates: &[u64]) -> bool
     ensures { λ r. ⌜ r ≡ anyOf tooManyNumbers (candidatesOf (now (candidates .entry))) ⌝ }
 {
-    let n = candidate::candidate_count(candidates);
+    let n = candidate_records::candidate_count(candidates);
     let mut over = false;
     let mut i: usize = 0;
     while i < n {
-        let c = candidate::candidate_at(candidates, i);
+        let c = candidate_records::candidate_at(candidates, i);
         over = over | (limits::MAX_NUMBERS < c.count);
         i += 1;
     }
@@ -34,11 +33,11 @@ pub fn too_many_numbers(candidates: &[u64]) -> bool
 pub fn broken_candidates(candidates: &[u64]) -> bool
     ensures { λ r. ⌜ r ≡ brokenCandidates (now (candidates .entry)) ⌝ }
 {
-    let n = candidate::candidate_count(candidates);
+    let n = candidate_records::candidate_count(candidates);
     let mut broken = candidates.len() % 6 != 0;
     let mut i: usize = 0;
     while i < n {
-        let c = candidate::candidate_at(candidates, i);
+        let c = candidate_records::candidate_at(candidates, i);
         broken = broken | !fits_kind(c);
         i += 1;
     }
@@ -49,11 +48,11 @@ pub fn broken_candidates(candidates: &[u64]) -> bool
 pub fn numbers_out(candidates: &[u64], numbers: u64) -> bool
     ensures { λ r. ⌜ r ≡ anyOf (numbersOut numbers) (candidatesOf (now (candidates .entry))) ⌝ }
 {
-    let n = candidate::candidate_count(candidates);
+    let n = candidate_records::candidate_count(candidates);
     let mut out = false;
     let mut i: usize = 0;
     while i < n {
-        let c = candidate::candidate_at(candidates, i);
+        let c = candidate_records::candidate_at(candidates, i);
         out = out | part_out(c.start, c.count, numbers);
         i += 1;
     }
@@ -64,11 +63,11 @@ pub fn numbers_out(candidates: &[u64], numbers: u64) -> bool
 pub fn estimates_out(estimates: &[u64]) -> bool
     ensures { λ r. ⌜ r ≡ anyOf estimateOut (estimatesOf (now (estimates .entry))) ⌝ }
 {
-    let n = candidate::estimate_count(estimates);
+    let n = candidate_records::estimate_count(estimates);
     let mut out = false;
     let mut i: usize = 0;
     while i < n {
-        let e = candidate::estimate_at(estimates, i);
+        let e = candidate_records::estimate_at(estimates, i);
         let inside = all_in_unit(e.l0_relief, e.debt_relief, e.read_relief);
         let large = (limits::MAX_REWRITE < e.estimated_rewrite_bytes) | (limits::MAX_AGE < e.age);
         out = out | (!inside | large);

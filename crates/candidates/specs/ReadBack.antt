@@ -7,8 +7,8 @@ use native.Mathlib.Omega.{arith}
 use lib.Dec.{lit<}
 use lib.ListN.{length, take, drop, length-append}
 use lib.Seq.{take-at, drop-at}
-use Rattle.records.specs.declared.candidate.Candidate.{Candidate}
-use Rattle.records.specs.Candidates.{candidateBy, candidatesOf}
+use Rattle.candidate_records.specs.declared.Candidate.{Candidate}
+use Rattle.candidate_records.specs.Candidates.{candidateBy, candidatesOf}
 use Rattle.l0_words.specs.Words.{Offer, sixWords, wordsFrom, numbersIn}
 use Rattle.candidates.specs.Generate.{GenerateInput, madeOf, candidateWords, numberWords}
 use Rattle.records.specs.Joined.{records-none, records-cons}

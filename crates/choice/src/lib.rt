@@ -1,7 +1,7 @@
 // The choice with focus: any L0 first, then the focus level while its streak is short, then the best score overall.
 ghost use mathlib.Core.Path.{_≡_};
 ghost use Prim.Native.Nat.{_<_};
-ghost use Rattle.records.specs.Candidates.{candidatesOf, estimatesOf};
+ghost use Rattle.candidate_records.specs.Candidates.{candidatesOf, estimatesOf};
 ghost use Rattle.scores.specs.Choices.{choicesFrom, lastBest, lowerScore, winnerOf};
 ghost use Rattle.scores.specs.Search.{readChoices};
 ghost use Rattle.choice.specs.Choice.{bestWithin, focusMaxJobs, answerOf, reselected, topLevel, continued, choiceOf};
@@ -12,7 +12,6 @@ use kinds::focus::FocusState;
 use kinds::tier::SelectionTier;
 use kinds::vector::PressureVector;
 use kinds::winner::Winner;
-use records::candidate;
 use scores::search;
 use scores::search::Scores;
 use scores::search::Search;
@@ -75,7 +74,7 @@ fn broken_pairs(candidates: &[u64], estimates: &[u64]) -> bool
     if estimates.len() % 9 != 0 {
         return true;
     }
-    candidate::candidate_count(candidates) != candidate::estimate_count(estimates)
+    candidate_records::candidate_count(candidates) != candidate_records::estimate_count(estimates)
 }
 
 fn choose(
@@ -167,7 +166,7 @@ fn select_focus_level(candidates: &[u64], estimates: &[u64], scores: Scores) -> 
 {
     match search::last_best(Search::All, candidates, estimates, scores) {
         Winner::At(place) => {
-            let c = candidate::candidate_at(candidates, place);
+            let c = candidate_records::candidate_at(candidates, place);
             FocusLevel::Level(c.level as u32)
         }
         Winner::None => FocusLevel::None,

@@ -7,7 +7,7 @@ use lib.Dec.{ltb}
 use Rattle.refusals.specs.Refusals.{Check, _gives_, firstFault, tooMany, badRecord, badLevel, tooLarge, noRoom}
 use Rattle.lists.specs.Any.{anyOf}
 use Rattle.faults.specs.Tables.{tooManyTables, brokenTables, tooManyEntries, brokenEntries, levelsOut}
-use Rattle.records.specs.Candidates.{candidatesOf}
+use Rattle.candidate_records.specs.Candidates.{candidatesOf}
 use Rattle.candidate_faults.specs.Candidates.{tooManyCandidates, tooManyNumbers, brokenCandidates, numbersOut}
 
 pub record EstimateInput : Type 0 where

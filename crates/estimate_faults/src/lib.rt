@@ -2,7 +2,6 @@
 ghost use mathlib.Core.Path.{_≡_};
 ghost use lib.ListN.{length};
 ghost use Rattle.estimate_faults.specs.Faults.{estimateInput, tooManyInputs, brokenInputs, estimateFault};
-use records::candidate;
 
 // The call's checks, in 01's order: 4, 5, 6, 2, 9. The room is the length of the output buffer.
 pub fn estimate_fault(
@@ -27,7 +26,7 @@ pub fn estimate_fault(
     if counts::is_large(next) {
         return refusals::TOO_LARGE;
     }
-    if room / 9 < candidate::candidate_count(candidates) {
+    if room / 9 < candidate_records::candidate_count(candidates) {
         return refusals::NO_ROOM;
     }
     refusals::NONE

@@ -16,8 +16,8 @@ use Rattle.arith.specs.Floats.{f0, f1, minimumOf}
 use Rattle.arith.specs.Whole.{floatOf}
 use Rattle.records.specs.declared.tables.Table.{Table}
 use Rattle.records.specs.declared.tables.Entry.{Entry}
-use Rattle.records.specs.declared.candidate.Candidate.{Candidate}
-use Rattle.records.specs.declared.candidate.CandidateEstimate.{CandidateEstimate}
+use Rattle.candidate_records.specs.declared.Candidate.{Candidate}
+use Rattle.candidate_records.specs.declared.CandidateEstimate.{CandidateEstimate}
 
 -- the first table with a number, or none
 unfoldable pub lookup : List Table → ℕ → List Table

@@ -8,10 +8,10 @@ use lib.ListN.{length, length-map}
 use borrow.Author.Tests.{eq-eqb}
 use Rattle.lists.specs.Any.{anyOf, any-none, in-at}
 use Rattle.kinds.specs.declared.vector.PressureVector.{PressureVector}
-use Rattle.records.specs.declared.candidate.Candidate.{Candidate}
-use Rattle.records.specs.declared.candidate.CandidateEstimate.{CandidateEstimate}
+use Rattle.candidate_records.specs.declared.Candidate.{Candidate}
+use Rattle.candidate_records.specs.declared.CandidateEstimate.{CandidateEstimate}
 use Rattle.records.specs.Tables.{tablesOf, entriesOf}
-use Rattle.records.specs.Candidates.{candidatesOf, estimatesOf, noCandidate}
+use Rattle.candidate_records.specs.Candidates.{candidatesOf, estimatesOf, noCandidate}
 use Rattle.candidate_faults.specs.Candidates.{estimateOut}
 use Rattle.estimates.specs.Estimate.{estimateOf}
 use Rattle.estimate_faults.specs.Faults.{EstimateInput, estimateFault}

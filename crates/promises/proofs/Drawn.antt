@@ -10,13 +10,13 @@ use borrow.Author.Tests.{eq-eqb, ne-eqb}
 use Rattle.lists.specs.Filter.{filterOf, filter-small}
 use Rattle.records.specs.declared.tables.Table.{Table}
 use Rattle.records.specs.declared.tables.Entry.{Entry}
-use Rattle.records.specs.declared.candidate.Candidate.{Candidate}
+use Rattle.candidate_records.specs.declared.Candidate.{Candidate}
 use Rattle.estimates.specs.Estimate.{lookup, matched, atLevel, offLevel, bytesOf, isL0Candidate, inputsOf, estimateOf}
 use Rattle.estimates.specs.Estimate.Members.{level-and-rest}
 use Rattle.kinds.specs.declared.vector.PressureVector.{PressureVector}
 use Rattle.kinds.specs.declared.focus.FocusState.{FocusState}
 use Rattle.kinds.specs.declared.winner.Winner.the-variants.{At}
-use Rattle.records.specs.Candidates.{candidatesOf}
+use Rattle.candidate_records.specs.Candidates.{candidatesOf}
 use Rattle.choice.specs.Choice.Call.{pickedOf}
 use Rattle.choice.specs.Choice.Laws.{winner-below}
 use Rattle.promises.specs.Drawn.{Lacks, FirstWith, Named, nothing, one, none}

@@ -9,7 +9,7 @@ use lib.ListN.{length}
 use borrow.Author.Tests.{le-ltb, le-leb, eq-eqb}
 use Rattle.lists.specs.Any.{anyOf, any-none}
 use Rattle.refusals.specs.Refusals.{_gives_, firstFault, tooLarge, noRoom}
-use Rattle.records.specs.declared.candidate.Candidate.{Candidate}
+use Rattle.candidate_records.specs.declared.Candidate.{Candidate}
 use Rattle.faults.specs.Limits.{maxCandidates, maxNumbers, maxBatch, maxLevel}
 use Rattle.candidate_faults.specs.Candidates.{tooManyNumbers, fitsKind, candidateBroken, numbersOut}
 use Rattle.l0_words.specs.Words.{Offer, numbersIn}

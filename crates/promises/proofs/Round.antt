@@ -13,8 +13,8 @@ use Rattle.refusals.specs.Refusals.{_gives_, noRoom}
 use Rattle.refusals.specs.Checks.{fault-in}
 use Rattle.kinds.specs.declared.tier.SelectionTier.the-variants.{None as NoTier}
 use Rattle.kinds.specs.declared.winner.Winner.the-variants.{None as NoWinner, At}
-use Rattle.records.specs.declared.candidate.Candidate.{Candidate}
-use Rattle.records.specs.Candidates.{candidateAt, noCandidate}
+use Rattle.candidate_records.specs.declared.Candidate.{Candidate}
+use Rattle.candidate_records.specs.Candidates.{candidateAt, noCandidate}
 use Rattle.candidate_faults.specs.Candidates.{fitsKind, candidateBroken}
 use Rattle.candidates.specs.Generate.{madeOf, candidateWords, inputChecks, shortOf, generateFault}
 use Rattle.candidates.specs.Accepted.{generated-refusal, generated-count}

@@ -19,7 +19,7 @@ use Rattle.lists.specs.Filter.{filterOf}
 use Rattle.lists.specs.Records.{recordsOf, tabulate}
 use Rattle.lists.specs.Sort.{insertBy, sortInto}
 use Rattle.records.specs.Tables.{tablesOf, entriesOf, firstKey, lastKey}
-use Rattle.records.specs.Candidates.{candidatesOf, estimatesOf}
+use Rattle.candidate_records.specs.Candidates.{candidatesOf, estimatesOf}
 use Rattle.faults.specs.Tables.{brokenTables, brokenKeys, levelsOut}
 use Rattle.candidate_faults.specs.Candidates.{fitsKind, inUnit, estimateOut}
 use Rattle.levels.specs.Levels.{byKey, overlaps}

@@ -12,8 +12,8 @@ use Rattle.kinds.specs.declared.winner.Winner.the-variants.{None as NoWinner, A
 use Rattle.kinds.specs.declared.kind.ChosenKind.{ChosenKind}
 use Rattle.kinds.specs.declared.kind.ChosenKind.the-variants.{None as Nothing}
 use Rattle.kinds.specs.Numbers.{kindNumber, kindLevel, kindLength}
-use Rattle.records.specs.declared.candidate.Candidate.{Candidate}
-use Rattle.records.specs.Candidates.{candidatesOf, candidateAt}
+use Rattle.candidate_records.specs.declared.Candidate.{Candidate}
+use Rattle.candidate_records.specs.Candidates.{candidatesOf, candidateAt}
 use Rattle.state.specs.declared.GovernorState.{GovernorState}
 use Rattle.state.specs.declared.Observed.{Observed}
 use Rattle.candidates.specs.declared.Generated.{Generated}

@@ -1,5 +1,4 @@
 -- Lent words as records, and the record at a place.
-pub mod Candidates
 pub mod Tables
 pub mod Words
 pub mod Joined

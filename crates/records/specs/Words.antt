@@ -18,14 +18,14 @@ module _ {X : Type 0} where
   abbrev pub recordsBy : ℕ → ((ℕ → ℕ) → X) → List ℕ → List X
   recordsBy w of = recordsOf w (recordFrom of)
 
--- word k of the record at a place, and 0 past the last whole record
+-- the word k after the first of the record at a place; 0 past the last whole record, and past the end
 unfoldable pub wordOf : List ℕ → ℕ → ℕ → ℕ → ℕ
 wordOf ws w i k = cond (ltb i (length ws / w)) (getD ws (i * w + k) 0) 0
 
 module _ (ws : List ℕ) (w i : ℕ) where
-  -- no word of a whole record stands past the end
-  pub record-inside : {k : ℕ} → k < w → i < length ws / w → i * w + k < length ws
-  record-inside p h = let e = le-div-iff-mul-le {k = w} {x = suc i} {y = length ws} (omega arith) .0 (omega arith) in omega (arith, suc-mul i w)
+  -- a whole record starts before the end
+  pub record-starts : 0 < w → i < length ws / w → i * w < length ws
+  record-starts p h = let e = le-div-iff-mul-le {k = w} {x = suc i} {y = length ws} p .0 (omega arith) in omega (arith, suc-mul i w)
 
   module _ {X : Type 0} (of : (ℕ → ℕ) → X) where
     at-test : (t : Bool) → ltb i (length ws / w) ≡ t → of (λ k. wordOf ws w i k) ≡ getD (recordsBy w of ws) i (of (λ _. 0))

@@ -1,4 +1,3 @@
-// Lent words as tables, over-budget entries, candidates and estimates. Nothing here is refused: a place past the last reads as a record of zeros.
-pub mod candidate;
+// Lent words as tables and over-budget entries, and the words of a record of any width. Nothing here is refused: a place past the last reads as a record of zeros.
 pub mod tables;
-mod words;
+pub mod words;

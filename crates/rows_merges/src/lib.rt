@@ -1,11 +1,11 @@
 // The calls of estimates, scores, choice and the decision that a choice leads to.
 ghost use Prim.Native.Nat.{_≤_};
 use arith::floats;
+use candidate_records::CandidateEstimate;
 use choice::Picked;
 use estimates::Estimated;
 use kinds::tier::SelectionTier;
 use kinds::winner::Winner;
-use records::candidate::CandidateEstimate;
 use rows_state::states;
 use rows_state::states::float;
 use rows_words::words;

@@ -6,7 +6,7 @@ use lib.Ieee.{Float, binary64, ofBits, add, mul, div}
 use Rattle.arith.specs.Root.{rootOf}
 use Rattle.arith.specs.Logarithm.{lnOf}
 use Rattle.kinds.specs.declared.vector.PressureVector.{PressureVector}
-use Rattle.records.specs.declared.candidate.CandidateEstimate.{CandidateEstimate}
+use Rattle.candidate_records.specs.declared.CandidateEstimate.{CandidateEstimate}
 
 abbrev pub ageBonusWeight : Float
 ageBonusWeight = ofBits binary64 0x3f847ae147ae147b

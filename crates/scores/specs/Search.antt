@@ -12,9 +12,9 @@ use Rattle.lists.specs.Filter.{filterOf}
 use Rattle.lists.specs.Records.{tabulate}
 use Rattle.arith.specs.Floats.{f0}
 use Rattle.kinds.specs.declared.vector.PressureVector.{PressureVector}
-use Rattle.records.specs.declared.candidate.Candidate.{Candidate}
-use Rattle.records.specs.declared.candidate.CandidateEstimate.{CandidateEstimate}
-use Rattle.records.specs.Candidates.{candidatesOf, estimatesOf, candidateAt, estimateAt}
+use Rattle.candidate_records.specs.declared.Candidate.{Candidate}
+use Rattle.candidate_records.specs.declared.CandidateEstimate.{CandidateEstimate}
+use Rattle.candidate_records.specs.Candidates.{candidatesOf, estimatesOf, candidateAt, estimateAt}
 use Rattle.kinds.specs.declared.winner.Winner.{Winner}
 use Rattle.kinds.specs.declared.winner.Winner.the-variants.{None as NoWinner, At}
 use Rattle.scores.specs.declared.search.Search.{Search}

@@ -4,14 +4,13 @@ ghost use mathlib.Core.List.{List, []};
 ghost use Prim.Native.Nat.{ℕ};
 ghost use lib.Ieee.{Float, nan, lt};
 ghost use lib.ListN.{getD};
-ghost use Rattle.records.specs.Candidates.{candidatesOf, estimatesOf};
+ghost use Rattle.candidate_records.specs.Candidates.{candidatesOf, estimatesOf};
 ghost use Rattle.scores.specs.Choices.{saturated};
 ghost use Rattle.scores.specs.Search.{scoreArray, firstL0, readChoice, readChoices, compared, below, bestOf, heldIn, loses};
 use crate::score;
 use faults::limits::MAX_CANDIDATES;
 use kinds::vector::PressureVector;
 use kinds::winner::Winner;
-use records::candidate;
 
 pub type Scores = [f64; MAX_CANDIDATES];
 
@@ -26,14 +25,14 @@ pub enum Search {
 pub fn all_scores(vector: PressureVector, estimates: &[u64]) -> Scores
     ensures { λ r. ⌜ r ≡ scoreArray vector (estimatesOf (now (estimates .entry))) ⌝ }
 {
-    let n = candidate::estimate_count(estimates);
+    let n = candidate_records::estimate_count(estimates);
     let mut scores = [0.0; MAX_CANDIDATES];
     let mut i: usize = 0;
     while i < n {
         if MAX_CANDIDATES <= i {
             return scores;
         }
-        let e = candidate::estimate_at(estimates, i);
+        let e = candidate_records::estimate_at(estimates, i);
         scores[i] = score::cause_aware_score(vector, e);
         i += 1;
     }
@@ -43,10 +42,10 @@ pub fn all_scores(vector: PressureVector, estimates: &[u64]) -> Scores
 pub fn first_l0(candidates: &[u64]) -> Winner
     ensures { λ r. ⌜ r ≡ firstL0 0 (candidatesOf (now (candidates .entry))) ⌝ }
 {
-    let n = candidate::candidate_count(candidates);
+    let n = candidate_records::candidate_count(candidates);
     let mut i: usize = 0;
     while i < n {
-        let c = candidate::candidate_at(candidates, i);
+        let c = candidate_records::candidate_at(candidates, i);
         if c.kind == 1 {
             return Winner::At(i);
         }
@@ -59,7 +58,7 @@ pub fn first_l0(candidates: &[u64]) -> Winner
 pub fn last_best(search: Search, candidates: &[u64], estimates: &[u64], scores: Scores) -> Winner
     ensures { λ r. ⌜ heldIn (readChoice (now (candidates .entry)) (now (estimates .entry)) scores) r ≡ bestOf search (readChoices (now (candidates .entry)) (now (estimates .entry)) scores) ⌝ }
 {
-    let n = candidate::candidate_count(candidates);
+    let n = candidate_records::candidate_count(candidates);
     let mut best = Winner::None;
     let mut i: usize = 0;
     while i < n {
@@ -77,7 +76,7 @@ pub fn last_best(search: Search, candidates: &[u64], estimates: &[u64], scores: 
 fn is_compared(search: Search, candidates: &[u64], estimates: &[u64], place: usize) -> bool
     ensures { λ r. ⌜ ((scores : List Float) → r ≡ compared search (readChoice (now (candidates .entry)) (now (estimates .entry)) scores place)) ⌝ }
 {
-    let c = candidate::candidate_at(candidates, place);
+    let c = candidate_records::candidate_at(candidates, place);
     match search {
         Search::All => true,
         Search::OfLevel(level) => c.level == level as u64,
@@ -94,9 +93,9 @@ fn is_compared(search: Search, candidates: &[u64], estimates: &[u64], place: usi
 pub fn saturated_at(candidates: &[u64], estimates: &[u64], place: usize) -> bool
     ensures { λ r. ⌜ r ≡ saturated (readChoice (now (candidates .entry)) (now (estimates .entry)) [] place) ⌝ }
 {
-    let c = candidate::candidate_at(candidates, place);
+    let c = candidate_records::candidate_at(candidates, place);
     if c.kind == 2 {
-        let e = candidate::estimate_at(estimates, place);
+        let e = candidate_records::estimate_at(estimates, place);
         return e.debt_relief >= 1.0;
     }
     false
@@ -118,8 +117,8 @@ fn is_below_best(
             Search::All => scores_below(scores, here, place),
             Search::OfLevel(_) => scores_below(scores, here, place),
             Search::Batches(_) => {
-                let c = candidate::candidate_at(candidates, here);
-                let b = candidate::candidate_at(candidates, place);
+                let c = candidate_records::candidate_at(candidates, here);
+                let b = candidate_records::candidate_at(candidates, place);
                 c.batch_len < b.batch_len
             }
         },

@@ -10,7 +10,7 @@ use Rattle.kinds.specs.declared.kind.ChosenKind.{ChosenKind}
 use Rattle.kinds.specs.declared.kind.ChosenKind.the-variants.{None as Nothing}
 use Rattle.kinds.specs.declared.winner.Winner.the-variants.{None, At}
 use Rattle.kinds.specs.Numbers.{kindNumber, kindLevel, kindLength}
-use Rattle.records.specs.Candidates.{candidatesOf, candidateAt}
+use Rattle.candidate_records.specs.Candidates.{candidatesOf, candidateAt}
 use Rattle.choice.specs.declared.Picked.{Picked}
 use Rattle.decisions.specs.Decision.{chosenGood, kindFrom, chosenFrom}
 use Rattle.decisions.specs.Decision.Good.{kind-small}

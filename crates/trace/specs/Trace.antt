@@ -5,9 +5,9 @@ use lib.ListN.{length}
 use Rattle.kinds.specs.declared.vector.PressureVector.{PressureVector}
 use Rattle.kinds.specs.declared.tier.SelectionTier.{SelectionTier}
 use Rattle.kinds.specs.Vector.{dominantOf}
-use Rattle.records.specs.declared.candidate.Candidate.{Candidate}
-use Rattle.records.specs.declared.candidate.CandidateEstimate.{CandidateEstimate}
-use Rattle.records.specs.Candidates.{candidatesOf, estimatesOf, candidateAt, estimateAt, noCandidate, noEstimate}
+use Rattle.candidate_records.specs.declared.Candidate.{Candidate}
+use Rattle.candidate_records.specs.declared.CandidateEstimate.{CandidateEstimate}
+use Rattle.candidate_records.specs.Candidates.{candidatesOf, estimatesOf, candidateAt, estimateAt, noCandidate, noEstimate}
 use Rattle.choice.specs.declared.Picked.{Picked}
 use Rattle.kinds.specs.declared.winner.Winner.{Winner}
 use Rattle.kinds.specs.declared.winner.Winner.the-variants.{None, At}

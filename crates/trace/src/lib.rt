@@ -1,14 +1,13 @@
 // From a choice to the decision that is logged. Nothing is refused: a place past the lists reads as records of zeros, which choose nothing.
 ghost use mathlib.Core.Path.{_≡_};
 ghost use Rattle.trace.specs.Trace.{decisionOf, decisionFor};
+use candidate_records::Candidate;
+use candidate_records::CandidateEstimate;
 use choice::Picked;
 use decisions::SchedulingDecision;
 use kinds::tier::SelectionTier;
 use kinds::vector::PressureVector;
 use kinds::winner::Winner;
-use records::candidate;
-use records::candidate::Candidate;
-use records::candidate::CandidateEstimate;
 
 // The log gives the sequence.
 fn decision(
@@ -43,7 +42,7 @@ pub fn scheduling_decision(
 ) -> SchedulingDecision
     ensures { λ r. ⌜ r ≡ decisionOf vector picked (now (candidates .entry)) (now (estimates .entry)) ⌝ }
 {
-    let considered = candidate::candidate_count(candidates) as u64;
+    let considered = candidate_records::candidate_count(candidates) as u64;
     let tier = picked.tier;
     let winner = picked.winner;
     match winner {
@@ -51,15 +50,15 @@ pub fn scheduling_decision(
             vector,
             tier,
             considered,
-            candidate::candidate_at(&candidates[0..0], 0),
-            candidate::estimate_at(&estimates[0..0], 0),
+            candidate_records::candidate_at(&candidates[0..0], 0),
+            candidate_records::estimate_at(&estimates[0..0], 0),
         ),
         Winner::At(place) => decision(
             vector,
             tier,
             considered,
-            candidate::candidate_at(candidates, place),
-            candidate::estimate_at(estimates, place),
+            candidate_records::candidate_at(candidates, place),
+            candidate_records::estimate_at(estimates, place),
         ),
     }
 }

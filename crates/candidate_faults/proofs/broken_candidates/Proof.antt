@@ -3,7 +3,7 @@ use Prim.Native.Nat.{_-_}
 use native.Mathlib.Omega.{arith}
 use borrow.Author.Needs.{needs}
 use Rattle.lists.specs.Any.{Testing, test-start, test-next, test-end}
-use Rattle.records.specs.Candidates.{candidatesOf, noCandidate}
+use Rattle.candidate_records.specs.Candidates.{candidatesOf, noCandidate}
 use Rattle.candidate_faults.specs.Candidates.{candidateBroken, brokenCandidates}
 use Rattle.candidate_faults.proofs.broken_candidates.Statement.{statement}
 use Rattle.candidate_faults.proofs.broken_candidates.Tie as tie

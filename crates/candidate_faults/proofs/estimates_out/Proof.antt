@@ -3,7 +3,7 @@ use Prim.Native.Nat.{_-_}
 use native.Mathlib.Omega.{arith}
 use borrow.Author.Needs.{needs}
 use Rattle.lists.specs.Any.{anyOf, Testing, test-start, test-next, test-end}
-use Rattle.records.specs.Candidates.{estimatesOf, noEstimate}
+use Rattle.candidate_records.specs.Candidates.{estimatesOf, noEstimate}
 use Rattle.candidate_faults.specs.Candidates.{estimateOut}
 use Rattle.candidate_faults.proofs.estimates_out.Statement.{statement}
 use Rattle.candidate_faults.proofs.estimates_out.Tie as tie

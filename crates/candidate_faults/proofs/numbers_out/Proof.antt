@@ -3,7 +3,7 @@ use Prim.Native.Nat.{_-_}
 use native.Mathlib.Omega.{arith}
 use borrow.Author.Needs.{needs}
 use Rattle.lists.specs.Any.{anyOf, Testing, test-start, test-next, test-end}
-use Rattle.records.specs.Candidates.{candidatesOf, noCandidate}
+use Rattle.candidate_records.specs.Candidates.{candidatesOf, noCandidate}
 use Rattle.candidate_faults.specs.Candidates.{numbersOut}
 use Rattle.candidate_faults.proofs.numbers_out.Statement.{statement}
 use Rattle.candidate_faults.proofs.numbers_out.Tie as tie

@@ -3,7 +3,7 @@ use Rattle.choice.specs.Choice.Tiers.{first-at, first-none}
 use Rattle.scores.specs.Search.Reading.{l0-is, read-is}
 use Rattle.scores.specs.Choices.{choicesFrom, isL0Choice}
 use Rattle.choice.specs.Choice.{choiceOf, focused}
-use Rattle.records.specs.Candidates.{candidatesOf, estimatesOf}
+use Rattle.candidate_records.specs.Candidates.{candidatesOf, estimatesOf}
 use Rattle.lists.specs.Filter.{filterOf}
 use borrow.Author.Tests.{lt-ltb, le-ltb}
 use mathlib.Core.Path.{sym, _∙_}

@@ -10,8 +10,8 @@ use borrow.Author.Tests.{ltb-true, ltb-false, leb-true, eqb-true, not-false}
 use Rattle.faults.specs.Limits.{maxCandidates}
 use Rattle.lists.specs.Any.{anyOf, any-at}
 use Rattle.kinds.specs.declared.vector.PressureVector.{PressureVector}
-use Rattle.records.specs.declared.candidate.Candidate.{Candidate}
-use Rattle.records.specs.Candidates.{candidatesOf, estimatesOf, candidateAt, noCandidate}
+use Rattle.candidate_records.specs.declared.Candidate.{Candidate}
+use Rattle.candidate_records.specs.Candidates.{candidatesOf, estimatesOf, candidateAt, noCandidate}
 use Rattle.candidate_faults.specs.Candidates.{fitsKind, candidateBroken, brokenCandidates}
 use Rattle.choice.specs.Choice.Call.{pickChecks, pickFault}
 use Rattle.refusals.specs.Checks.{none-found}

@@ -11,7 +11,7 @@ use Rattle.kinds.specs.declared.focus.FocusState.{FocusState}
 use Rattle.kinds.specs.declared.tier.SelectionTier.the-variants.{None as NoTier}
 use Rattle.kinds.specs.declared.winner.Winner.the-variants.{None as NoWinner}
 use Rattle.choice.specs.declared.Picked.{Picked}
-use Rattle.records.specs.Candidates.{candidatesOf, estimatesOf}
+use Rattle.candidate_records.specs.Candidates.{candidatesOf, estimatesOf}
 use Rattle.candidate_faults.specs.Candidates.{tooManyCandidates, brokenCandidates, inUnit, estimateOut}
 use Rattle.scores.specs.Choices.{choicesFrom}
 use Rattle.choice.specs.Choice.{choiceOf}

@@ -11,12 +11,12 @@ use lib.Ieee.{Float, fin, isNan}
 use borrow.Author.Tests.{ltb-false, eq-eqb, eqb-true, not-false}
 use Rattle.kinds.specs.declared.vector.PressureVector.{PressureVector}
 use Rattle.kinds.specs.declared.focus.FocusState.{FocusState}
-use Rattle.records.specs.declared.candidate.Candidate.{Candidate}
-use Rattle.records.specs.declared.candidate.CandidateEstimate.{CandidateEstimate}
+use Rattle.candidate_records.specs.declared.Candidate.{Candidate}
+use Rattle.candidate_records.specs.declared.CandidateEstimate.{CandidateEstimate}
 use Rattle.kinds.specs.declared.tier.SelectionTier.the-variants.{None as NoTier, L0}
 use Rattle.kinds.specs.declared.winner.Winner.the-variants.{None as NoWinner, At}
 use Rattle.choice.specs.declared.Picked.{Picked}
-use Rattle.records.specs.Candidates.{candidatesOf, estimatesOf}
+use Rattle.candidate_records.specs.Candidates.{candidatesOf, estimatesOf}
 use Rattle.candidate_faults.specs.Candidates.{inUnit, estimateOut}
 use Rattle.scores.specs.Score.{scoreOf}
 use Rattle.lists.specs.Filter.{filterOf, filter-in}

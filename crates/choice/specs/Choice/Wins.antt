@@ -17,9 +17,9 @@ use Rattle.kinds.specs.declared.focus.FocusLevel.{FocusLevel}
 use Rattle.kinds.specs.declared.focus.FocusLevel.the-variants.{None as Nothing, Level}
 use Rattle.kinds.specs.declared.tier.SelectionTier.the-variants.{None as NoTier, L0, FocusContinued, FocusReselected}
 use Rattle.kinds.specs.declared.winner.Winner.the-variants.{None as NoWinner, At}
-use Rattle.records.specs.declared.candidate.Candidate.{Candidate}
-use Rattle.records.specs.declared.candidate.CandidateEstimate.{CandidateEstimate}
-use Rattle.records.specs.Candidates.{candidatesOf, estimatesOf, candidateAt}
+use Rattle.candidate_records.specs.declared.Candidate.{Candidate}
+use Rattle.candidate_records.specs.declared.CandidateEstimate.{CandidateEstimate}
+use Rattle.candidate_records.specs.Candidates.{candidatesOf, estimatesOf, candidateAt}
 use Rattle.scores.specs.Choices.{Choice, choicesFrom, lastBest, lowerScore, shorter, isL0Choice, onLevel, saturated, winnerOf}
 use Rattle.scores.specs.Choices.LastBest.{best-some}
 use Rattle.scores.specs.Search.Reading.{choiceAt, noChoice, choices-length, choices-at}

@@ -1,6 +1,6 @@
 -- `estimate_faults::estimate_fault` meets its contract.
 use Rattle.estimate_faults.specs.Faults.{estimateFault}
-use Rattle.records.specs.Candidates.{candidatesOf}
+use Rattle.candidate_records.specs.Candidates.{candidatesOf}
 use borrow.Author.Tests.{lt-ltb, le-ltb}
 use denote.Ref.{now}
 use lib.ListN.{length}

@@ -3,12 +3,12 @@ use Rattle.lists.specs.Flat.{flat-more, flat-end}
 use Rattle.estimates.specs.Estimate.{estimateOf, nineWords}
 use Rattle.estimate_faults.specs.Faults.{estimateInput}
 use Rattle.estimates.specs.Estimate.Call.{estimateWordsOf, estimateWords}
-use Rattle.records.specs.Candidates.{candidatesOf, candidateAt, noCandidate}
+use Rattle.candidate_records.specs.Candidates.{candidatesOf, candidateAt, noCandidate}
 use Rattle.lists.specs.Writes.{Filling, fill-start, fill-part, fill-end}
 use Rattle.records.specs.Tables.{tablesOf, entriesOf}
 use denote.Ref.{now}
 use lib.ListN.{length, drop}
-use Rattle.records.specs.declared.candidate.Candidate.{Candidate}
+use Rattle.candidate_records.specs.declared.Candidate.{Candidate}
 use mathlib.Core.List.{List}
 use Prim.Native.Nat.{ℕ, _*_, _-_, _≤_}
 use borrow.Author.Needs.{needs}

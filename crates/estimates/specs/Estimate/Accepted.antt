@@ -13,8 +13,8 @@ use Rattle.faults.specs.Tables.{tableBroken, tooManyTables, brokenTables, tooMa
 use Rattle.records.specs.declared.tables.Table.{Table}
 use Rattle.records.specs.Tables.{tablesOf, entriesOf}
 use Rattle.lists.specs.Writes.{sets-front}
-use Rattle.records.specs.declared.candidate.Candidate.{Candidate}
-use Rattle.records.specs.Candidates.{candidatesOf, candidateAt, noCandidate}
+use Rattle.candidate_records.specs.declared.Candidate.{Candidate}
+use Rattle.candidate_records.specs.Candidates.{candidatesOf, candidateAt, noCandidate}
 use Rattle.candidate_faults.specs.Candidates.{tooManyCandidates, tooManyNumbers, numbersOut, brokenCandidates}
 use Rattle.estimates.specs.declared.Estimated.{Estimated}
 use Rattle.estimates.specs.Estimate.{estimateOf, nineWords}

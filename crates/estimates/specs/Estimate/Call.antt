@@ -8,8 +8,8 @@ use Rattle.refusals.specs.Refusals.{none}
 use Rattle.records.specs.declared.tables.Table.{Table}
 use Rattle.records.specs.declared.tables.Entry.{Entry}
 use Rattle.records.specs.Tables.{tablesOf, entriesOf}
-use Rattle.records.specs.declared.candidate.Candidate.{Candidate}
-use Rattle.records.specs.Candidates.{candidatesOf}
+use Rattle.candidate_records.specs.declared.Candidate.{Candidate}
+use Rattle.candidate_records.specs.Candidates.{candidatesOf}
 use Rattle.estimate_faults.specs.Faults.{EstimateInput, estimateFault}
 use Rattle.estimates.specs.declared.Estimated.{Estimated}
 use Rattle.estimates.specs.Estimate.{estimateOf, nineWords}

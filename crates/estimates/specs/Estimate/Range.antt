@@ -16,7 +16,7 @@ use Rattle.arith.specs.Whole.{floatOf}
 use Rattle.arith.specs.Whole.Rounding.{float-exact}
 use Rattle.records.specs.declared.tables.Table.{Table}
 use Rattle.records.specs.declared.tables.Entry.{Entry}
-use Rattle.records.specs.declared.candidate.Candidate.{Candidate}
+use Rattle.candidate_records.specs.declared.Candidate.{Candidate}
 use Rattle.candidate_faults.specs.Candidates.{inUnit, estimateOut}
 use Rattle.candidate_faults.specs.InUnit.{zero-unit, one-unit, cut-unit, plain-low}
 use Rattle.estimates.specs.Estimate.{shareOf, firstShare, reliefOf, matched, atLevel, offLevel, bytesOf, oldestOf, isL0Candidate, inputsOf, estimateOf}

@@ -14,9 +14,9 @@ use Rattle.arith.specs.Floats.Clamp.{minimum-one-of}
 use Rattle.arith.specs.Whole.{floatOf}
 use Rattle.records.specs.declared.tables.Table.{Table}
 use Rattle.records.specs.declared.tables.Entry.{Entry}
-use Rattle.records.specs.declared.candidate.Candidate.{Candidate}
-use Rattle.records.specs.declared.candidate.CandidateEstimate.{CandidateEstimate}
-use Rattle.records.specs.Candidates.{estimateBy, estimatesOf}
+use Rattle.candidate_records.specs.declared.Candidate.{Candidate}
+use Rattle.candidate_records.specs.declared.CandidateEstimate.{CandidateEstimate}
+use Rattle.candidate_records.specs.Candidates.{estimateBy, estimatesOf}
 use Rattle.records.specs.Joined.{records-flat}
 use Rattle.estimates.specs.Estimate.{firstShare, isL0Candidate, estimateOf, nineWords}
 use Rattle.estimates.specs.Estimate.Call.{estimateWordsOf}

@@ -13,7 +13,7 @@ use Rattle.lists.specs.Filter.{filterOf}
 use Rattle.arith.specs.Floats.{f0, f1}
 use Rattle.records.specs.declared.tables.Table.{Table}
 use Rattle.records.specs.declared.tables.Entry.{Entry}
-use Rattle.records.specs.declared.candidate.Candidate.{Candidate}
+use Rattle.candidate_records.specs.declared.Candidate.{Candidate}
 use Rattle.estimates.specs.declared.Lookup.{Lookup}
 use Rattle.estimates.specs.declared.Lookup.the-variants.{None as Nothing, One}
 use Rattle.estimates.specs.declared.Tally.{Tally}

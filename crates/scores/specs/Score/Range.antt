@@ -16,7 +16,7 @@ use Rattle.arith.specs.Root.Nearest.{root-value}
 use Rattle.arith.specs.Logarithm.{lnOf, unitsOf}
 use Rattle.arith.specs.Logarithm.Value.{ln-value, units-lt}
 use Rattle.kinds.specs.declared.vector.PressureVector.{PressureVector}
-use Rattle.records.specs.declared.candidate.CandidateEstimate.{CandidateEstimate}
+use Rattle.candidate_records.specs.declared.CandidateEstimate.{CandidateEstimate}
 use Rattle.candidate_faults.specs.Candidates.{inUnit}
 use Rattle.scores.specs.Score.{ageBonusWeight, benefitOf, scoreOf}
 use Rattle.arith.specs.Floats.Range.{Small, Plain, value-plain, mul-plain, mul-small, add-small, add-plain, div-plain}

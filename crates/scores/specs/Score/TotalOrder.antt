@@ -16,7 +16,7 @@ use lib.Ieee.Nearest.{div-mono}
 use borrow.Author.Tests.{ltb-true, ltb-false, lt-ltb, le-ltb, lt-leb}
 use Rattle.arith.specs.Floats.Range.{Plain}
 use Rattle.kinds.specs.declared.vector.PressureVector.{PressureVector}
-use Rattle.records.specs.declared.candidate.CandidateEstimate.{CandidateEstimate}
+use Rattle.candidate_records.specs.declared.CandidateEstimate.{CandidateEstimate}
 use Rattle.scores.specs.Score.{scoreOf}
 use Rattle.scores.specs.Score.Range.{InRange, score-plain, score-fits}
 

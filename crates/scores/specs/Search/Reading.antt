@@ -17,9 +17,9 @@ use Rattle.lists.specs.Records.{tabulate-length, tabulate-at}
 use Rattle.lists.specs.Writes.{sets-front, sets-past}
 use Rattle.arith.specs.Floats.{f0}
 use Rattle.kinds.specs.declared.vector.PressureVector.{PressureVector}
-use Rattle.records.specs.declared.candidate.Candidate.{Candidate}
-use Rattle.records.specs.declared.candidate.CandidateEstimate.{CandidateEstimate}
-use Rattle.records.specs.Candidates.{candidatesOf, estimatesOf, candidateAt, estimateAt, noCandidate, noEstimate}
+use Rattle.candidate_records.specs.declared.Candidate.{Candidate}
+use Rattle.candidate_records.specs.declared.CandidateEstimate.{CandidateEstimate}
+use Rattle.candidate_records.specs.Candidates.{candidatesOf, estimatesOf, candidateAt, estimateAt, noCandidate, noEstimate}
 use Rattle.kinds.specs.declared.winner.Winner.the-variants.{None as NoWinner, At}
 use Rattle.scores.specs.Score.{scoreOf}
 use Rattle.scores.specs.Choices.{Choice, choicesFrom, isL0Choice, winnerOf}

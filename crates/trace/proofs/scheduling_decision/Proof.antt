@@ -2,7 +2,7 @@
 use mathlib.Core.Path.{_∙_}
 use borrow.Author.Needs.{needs}
 use Rattle.lists.specs.Records.{tabulate, recordsOf}
-use Rattle.records.specs.Candidates.{candidatesOf, estimatesOf}
+use Rattle.candidate_records.specs.Candidates.{candidatesOf, estimatesOf}
 use Rattle.trace.specs.Trace.{decisionOf}
 use Rattle.trace.proofs.scheduling_decision.Statement.{statement}
 use Rattle.trace.proofs.scheduling_decision.Tie as tie

@@ -5,7 +5,7 @@ use native.Mathlib.Numerals.{add-one}
 use lib.Seq.{sets}
 use lib.ListN.{length, drop}
 use denote.Ref.{now}
-use Rattle.records.specs.Candidates.{estimatesOf}
+use Rattle.candidate_records.specs.Candidates.{estimatesOf}
 use Rattle.scores.specs.Search.{scoresOf, scoreArray}
 use Rattle.scores.specs.Search.Reading.{scores-more, scores-full, scores-end}
 use borrow.Author.Needs.{needs}

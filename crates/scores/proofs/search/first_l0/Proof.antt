@@ -3,7 +3,7 @@ use mathlib.Core.Path.{_≡_, refl, sym, _∙_}
 use Prim.Native.Nat.{_-_, _≤_}
 use lib.ListN.{length, drop}
 use denote.Ref.{now}
-use Rattle.records.specs.Candidates.{candidatesOf}
+use Rattle.candidate_records.specs.Candidates.{candidatesOf}
 use Rattle.scores.specs.Search.{firstL0}
 use Rattle.scores.specs.Search.Reading.{l0-here, l0-next, l0-end}
 use borrow.Author.Needs.{needs}

@@ -1,7 +1,7 @@
 -- `scores::search::last_best` meets its contract. The best of the first `i` places is held.
 use Rattle.scores.specs.Search.Pass.{Held, held-start, held-next, held-end}
 use Rattle.scores.specs.Search.{readChoice}
-use Rattle.records.specs.Candidates.{candidatesOf}
+use Rattle.candidate_records.specs.Candidates.{candidatesOf}
 use denote.Ref.{now}
 use lib.ListN.{length}
 use mathlib.Core.Path.{refl, sym, _∙_}

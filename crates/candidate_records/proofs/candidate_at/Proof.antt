@@ -1,9 +1,9 @@
--- `records::candidate::candidate_at` meets its contract.
+-- `candidate_records::candidate_at` meets its contract.
 use Rattle.records.specs.Words.{record-at}
-use Rattle.records.specs.Candidates.{candidatesOf, candidateBy}
+use Rattle.candidate_records.specs.Candidates.{candidatesOf, candidateBy}
 use borrow.Author.Needs.{needs}
-use Rattle.records.proofs.candidate.candidate_at.Statement.{statement}
-use Rattle.records.proofs.candidate.candidate_at.Tie as tie
+use Rattle.candidate_records.proofs.candidate_at.Statement.{statement}
+use Rattle.candidate_records.proofs.candidate_at.Tie as tie
 
 returns : tie.Need-returns
 unfolding candidatesOf

@@ -1,9 +1,9 @@
-// Candidates and estimates in lent words: six to a candidate, nine to an estimate, floats as bits. A place is a record's number in its list, from 0.
+// Candidates and estimates in lent words: six to a candidate, nine to an estimate, floats as bits. A place is a record's number in its list, from 0. Nothing here is refused: a place past the last reads as a record of zeros.
 ghost use mathlib.Core.Path.{_≡_};
 ghost use lib.ListN.{length};
-ghost use Rattle.records.specs.Candidates.{candidatesOf, candidateAt, estimatesOf, estimateAt};
-use crate::words::word;
+ghost use Rattle.candidate_records.specs.Candidates.{candidatesOf, candidateAt, estimatesOf, estimateAt};
 use arith::floats;
+use records::words::word;
 
 pub struct Candidate {
     pub kind: u64,

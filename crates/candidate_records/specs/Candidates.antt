@@ -3,9 +3,9 @@ use Prim.Native.Nat.{ℕ}
 use mathlib.Core.List.{List}
 use lib.ListN.{getD}
 use lib.Ieee.{binary64, ofBits}
 use Rattle.records.specs.Words.{recordsBy}
-use Rattle.records.specs.declared.candidate.Candidate.{Candidate}
-use Rattle.records.specs.declared.candidate.CandidateEstimate.{CandidateEstimate}
+use Rattle.candidate_records.specs.declared.Candidate.{Candidate}
+use Rattle.candidate_records.specs.declared.CandidateEstimate.{CandidateEstimate}
 
 -- a record by its words
 abbrev pub candidateBy : (ℕ → ℕ) → Candidate

@@ -1,9 +1,9 @@
--- `records::candidate::estimate_at` meets its contract.
+-- `candidate_records::estimate_at` meets its contract.
 use Rattle.records.specs.Words.{record-at}
-use Rattle.records.specs.Candidates.{estimatesOf, estimateBy}
+use Rattle.candidate_records.specs.Candidates.{estimatesOf, estimateBy}
 use borrow.Author.Needs.{needs}
-use Rattle.records.proofs.candidate.estimate_at.Statement.{statement}
-use Rattle.records.proofs.candidate.estimate_at.Tie as tie
+use Rattle.candidate_records.proofs.estimate_at.Statement.{statement}
+use Rattle.candidate_records.proofs.estimate_at.Tie as tie
 
 returns : tie.Need-returns
 unfolding estimatesOf

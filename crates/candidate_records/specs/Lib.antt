@@ -1,0 +1,2 @@
+-- Candidates and estimates in lent words.
+pub mod Candidates
