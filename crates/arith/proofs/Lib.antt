@@ -1,5 +1,4 @@
 -- Laws that only the proofs of the code need.
-pub mod Rounded
 pub mod Digits
 pub mod Aligned
 pub mod Normal

@@ -1,24 +1,14 @@
--- One more than v = d * 2^s, brought to 54 binary digits by shifts.
+-- One more than v, brought to 54 binary digits by shifts.
 -- Assumes nothing.
-use Prim.Native.Nat.{ℕ, zero, suc, _+_, _-_, _*_, _/_, _%_, _^_, _≤_, _<_}
-use mathlib.Core.Path.{_≡_, refl, sym, ap, _∙_}
-use native.Mathlib.Nat.{zero-mul, mul-assoc, mul-le-mul-left, pow-succ', mul-div-mul-right}
+use Prim.Native.Nat.{ℕ, suc, _+_, _-_, _*_, _/_, _%_, _^_, _≤_, _<_}
+use mathlib.Core.Path.{_≡_, sym, _∙_}
+use native.Mathlib.Nat.{mul-assoc, mul-div-mul-right}
 use native.Mathlib.Omega.{arith}
 use lib.Pow.{pow-pos, shl-exact, shl-shr}
 use lib.Ieee.{size}
 use Rattle.arith.specs.Whole.Values.{parts}
 use Rattle.arith.specs.Logarithm.{topOf, bigOf}
 use Rattle.arith.specs.Logarithm.Top.{top-is}
-
--- the product wraps at 2^64 alone
-pub wraps : (d s : ℕ) → d * 2 ^ s ≤ 2 ^ 64 → d * 2 ^ s % 2 ^ 64 < d → d * 2 ^ s ≡ 2 ^ 64
-wraps d s h l = omega (arith, mul-le-mul-left d (pow-pos s))
-
--- else one more than it fits too: with a shift it is even
-pub stays : (d s : ℕ) → d ≤ 2 ^ 53 → d * 2 ^ s ≤ 2 ^ 64 → d ≤ d * 2 ^ s % 2 ^ 64 → (d * 2 ^ s % 2 ^ 64 ≡ d * 2 ^ s) × (d * 2 ^ s + 1 < 2 ^ 64)
-stays zero s few h l = rw (zero-mul (2 ^ s)) (refl, omega arith)
-stays (suc d) zero few h l = omega arith
-stays (suc d) (suc s) few h l = omega (arith, ap (λ (x : ℕ). suc d * x) (pow-succ' 2 s))
 
 -- by its size
 module _ (v z : ℕ) (is : z ≡ size (v + 1)) where

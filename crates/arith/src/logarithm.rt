@@ -2,9 +2,11 @@
 ghost use mathlib.Core.Path.{_≡_};
 ghost use Prim.Native.Nat.{_+_, _*_, _/_, _<_, _≤_, _^_};
 ghost use lib.ListN.{getD};
+ghost use Rattle.arith.specs.Whole.{roundedOf};
 ghost use Rattle.arith.specs.Logarithm.{tab, rem, rule, topOf, bigOf, lnOf};
-use super::whole::rounded;
+use super::whole::of_u64;
 use super::whole::size;
+use super::whole::truncate;
 
 const LOGS: [u64; 1024] = [
     0,
@@ -1066,13 +1068,12 @@ struct Normal {
     k: u64,
 }
 
-// One more than digits * 2^shift, with its last places cut off where it has more than 54.
-fn normalised(digits: u64, shift: u64) -> Normal
-    requires { ⌜ (digits ≤ 2 ^ 53) × (shift < 64) × (digits * 2 ^ shift ≤ 2 ^ 64) ⌝ }
-    ensures { λ r. ⌜ (r .big ≡ bigOf (digits * 2 ^ shift + 1)) × (r .k ≡ topOf (digits * 2 ^ shift + 1)) ⌝ }
+// One more than the age's value, with its last places cut off where it has more than 54.
+fn normalised(age: u64) -> Normal
+    ensures { λ r. ⌜ (r .big ≡ bigOf (roundedOf age + 1)) × (r .k ≡ topOf (roundedOf age + 1)) ⌝ }
 {
-    let v = digits << shift;
-    if v < digits {
+    let v = truncate(of_u64(age));
+    if v == 0xffff_ffff_ffff_ffff {
         // 2^64, the one value past the top
         return Normal {
             big: 0x20_0000_0000_0000,
@@ -1097,10 +1098,7 @@ fn normalised(digits: u64, shift: u64) -> Normal
 pub fn ln_1p(age: u64) -> f64
     ensures { λ r. ⌜ r ≡ lnOf age ⌝ }
 {
-    let r = rounded(age);
-    let digits = r.digits;
-    let shift = r.shift;
-    let s = normalised(digits, shift);
+    let s = normalised(age);
     let big = s.big;
     let k = s.k;
     units(big, k) as f64 / 0x1000_0000_0000u64 as f64

@@ -2,8 +2,9 @@
 ghost use mathlib.Core.Path.{_≡_};
 ghost use Prim.Native.Nat.{_*_, _^_};
 ghost use Rattle.arith.specs.Root.{floorRoot, nearestRoot, rootOf};
-use super::whole::rounded;
+use super::whole::of_u64;
 use super::whole::size;
+use super::whole::truncate;
 
 // The root of n * 4^21 to the nearest, by the 53 binary digits of its whole part.
 fn digits(n: u64) -> u64
@@ -33,11 +34,13 @@ pub fn sqrt(n: u64) -> f64
     if n == 0 {
         return 0.0;
     }
-    let v = rounded(n);
-    let kept = v.digits;
-    let shift = v.shift;
+    let v = truncate(of_u64(n));
+    if v == 0xffff_ffff_ffff_ffff {
+        // 2^64, the one value past the top
+        return 4294967296.0;
+    }
     // the root has half as many binary digits before the point as v, and 53 in all
-    let half = (size(kept) + shift - 1) / 2;
-    let root = digits(kept << (62 + shift - half * 2));
+    let half = (size(v) - 1) / 2;
+    let root = digits(v << (62 - half * 2));
     root as f64 / (1u64 << (52 - half)) as f64
 }

@@ -1,50 +1,14 @@
-// Whole numbers as floats: Rust's `as` between u64 and f64, and what it keeps of a u64.
+// Whole numbers as floats: Rust's `as` between u64 and f64.
 ghost use mathlib.Core.Path.{_≡_};
 ghost use lib.Ieee;
 ghost use lib.Ieee.{toUnsigned};
-ghost use Rattle.arith.specs.Whole.{floatOf, droppedOf, keptOf};
+ghost use Rattle.arith.specs.Whole.{floatOf};
 
 // How many binary digits n has.
 pub(crate) fn size(n: u64) -> u64
     ensures { λ r. ⌜ r ≡ Ieee.size n ⌝ }
 {
     64 - u64::leading_zeros(n) as u64
-}
-
-// How many of them an f64 has no room for.
-fn dropped(n: u64) -> u64
-    ensures { λ r. ⌜ r ≡ droppedOf n ⌝ }
-{
-    let digits = size(n);
-    if digits < 53 { 0 } else { digits - 53 }
-}
-
-// `n as f64` is digits * 2^shift.
-pub struct Scaled {
-    pub digits: u64,
-    pub shift: u64,
-}
-
-pub(crate) fn rounded(n: u64) -> Scaled
-    ensures { λ r. ⌜ (r .digits ≡ keptOf n) × (r .shift ≡ droppedOf n) ⌝ }
-{
-    let shift = dropped(n);
-    let unit = 1u64 << shift;
-    let digits = n / unit;
-    let twice = n % unit * 2;
-    if twice < unit {
-        Scaled { digits, shift }
-    } else if unit < twice {
-        Scaled {
-            digits: digits + 1,
-            shift,
-        }
-    } else {
-        Scaled {
-            digits: digits + digits % 2,
-            shift,
-        }
-    }
 }
 
 // `n as f64`.

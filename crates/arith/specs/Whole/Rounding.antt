@@ -9,7 +9,7 @@ use native.Mathlib.Decide.{decLe}
 use native.Mathlib.Omega.{arith}
 use lib.Dec.{T, lit<, lit≤}
 use lib.Count.{leadingZeros, leading-length}
-use lib.Pow.{pow-add, pow-pos, pow-mono, shl-lt}
+use lib.Pow.{pow-add, pow-pos, pow-mono}
 use lib.Ieee.{Format, binary64, prec, low, size, round, ofInt, le}
 use lib.Ieee.Digits.{size-lt, size-le, size-reaches}
 use lib.Ieee.Fits.{nearest-le, kept-lt}
@@ -28,13 +28,6 @@ size-gt n j h = lt-of-not-le (λ (g : size n ≤ j). not-le-of-lt (lt-of-lt-of-l
 pub size-mono : (n p : ℕ) → n ≤ p → size n ≤ size p
 size-mono n p h = size-le n (size p) (lt-of-le-of-lt h (size-lt p))
 
-pub size-shift : (q k : ℕ) → 0 < q → size (q * 2 ^ k) ≡ size q + k
-size-shift q k h =
-    let z = size q in
-    let one : 0 < z = size-gt q 0 h in
-    let reached : 2 ^ (z - 1 + k) ≤ q * 2 ^ k = le-trans (le-of-eq (pow-add 2 (z - 1) k)) (mul-le-mul-right (2 ^ k) (size-reaches q (z - 1) (omega arith))) in
-    omega (arith, size-le (q * 2 ^ k) (z + k) (shl-lt z k (size-lt q)), size-gt (q * 2 ^ k) (z - 1 + k) reached)
-
 -- Rust's `leading_zeros` counts the other digits
 pub leading-size : (n : ℕ) → n < 2 ^ 64 → leadingZeros 64 n + size n ≡ 64
 leading-size n h =
@@ -44,9 +37,6 @@ leading-size n h =
     reached : (m : ℕ) → 2 ^ m ≤ 2 * n + 1 → m ≤ size n
     reached zero g = zero-le
     reached (suc j) g = size-gt n j (omega (arith, pow-succ' 2 j))
-
-pub dropped-le : (n : ℕ) → n < 2 ^ 64 → droppedOf n ≤ 11
-dropped-le n h = omega (arith, size-le n 64 h)
 
 pub kept-le : (n : ℕ) → keptOf n ≤ 2 ^ 53
 kept-le n = let d = droppedOf n in le-trans (nearest-le (n / 2 ^ d) (compare (n % 2 ^ d * 2) (2 ^ d))) (kept-lt 53 n)
@@ -71,6 +61,18 @@ rounded-exact n h = elim (eq-or-lt-of-le h) [
 -- a long one has 53 digits and those that are dropped
 long : (n : ℕ) → (n ≤ 2 ^ 53 → ⊥) → (0 < droppedOf n) × (size n ≡ 53 + droppedOf n)
 long n g = let l = size-gt n 53 (le-of-lt (lt-of-not-le g)) in (omega arith, omega arith)
+
+-- one that is odd has 53 digits at most
+pub rounded-odd : (n : ℕ) → roundedOf n % 2 ≡ 1 → roundedOf n ≤ 2 ^ 53
+unfolding roundedOf
+rounded-odd n o = elim (decLe n (2 ^ 53)) [
+  | yes l ↦ omega (arith, rounded-exact n l)
+  | no g ↦ even (keptOf n) (droppedOf n) (long n g .0) o
+]
+  where
+    even : (q d : ℕ) → 0 < d → q * 2 ^ d % 2 ≡ 1 → q * 2 ^ d ≤ 2 ^ 53
+    even q zero p o = absurd (omega arith)
+    even q (suc d) p o = omega (arith, ap (λ (x : ℕ). q * x) (pow-succ' 2 d))
 
 pub rounded-width : (w n : ℕ) → n < 2 ^ w → roundedOf n ≤ 2 ^ w
 unfolding roundedOf

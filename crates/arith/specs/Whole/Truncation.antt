@@ -1,25 +1,46 @@
 -- The laws of Rust's `x as u64`: it is the whole part where that is a u64, 0 from -1 down, the top from 2^64 up, and it keeps the order.
 -- Assumes nothing.
-use mathlib.Core.Path.{_≡_, refl, sym}
+use mathlib.Core.Path.{_≡_, refl, sym, ap, _∙_}
 use mathlib.Core.Bool.{Bool, true, false, _&&_, _||_, true≢false}
-use Prim.Native.Nat.{ℕ, _+_, _-_, _*_, _/_, _^_, _≤_, _<_, zero-le}
-use native.Mathlib.Nat.{le-refl, le-of-eq, le-of-lt, zero-div, div-mul-le-self, div-lt-iff-lt-mul, le-div-iff-mul-le}
+use Prim.Native.Nat.{ℕ, _+_, _-_, _*_, _/_, _^_, _≤_, _<_, min, zero-le}
+use native.Mathlib.Nat.{le-refl, le-of-eq, le-of-lt, lt-of-not-le, zero-div, div-one, div-mul-le-self, div-lt-iff-lt-mul, le-div-iff-mul-le}
+use native.Mathlib.Decide.{decLe}
 use native.Mathlib.Omega.{arith}
-use lib.Dec.{T, ltb, eqb, eqb→eq, ltb→lt}
+use lib.Arith.{lt-of-le-ne}
+use lib.Dec.{T, ltb, eqb, eqb→eq, ltb→lt, lit<}
 use lib.IntN.{pos}
 use lib.Ieee.{Float, nan, inf, fin, up, down, lt, le, toUnsigned}
 use lib.Ieee.Fits.{down-pos, and-r}
 use lib.Ieee.Exact.{HasValue}
 use lib.Ieee.Nearest.{div-same, div-mono}
 use borrow.Author.Tests.{ltb-false}
+use Rattle.arith.specs.Whole.{floatOf, roundedOf}
 use Rattle.arith.specs.Whole.Values.{by-value}
+use Rattle.arith.specs.Whole.Rounding.{rounded-value, rounded-le, rounded-odd}
 
--- the whole part of a / c: of `num x` / `den x`, as of any fraction that x is worth
+-- the whole part of a / c, and never past the top: of `num x` / `den x`, as of any fraction that x is worth
+part : (x : Float) (a c : ℕ) → 0 < c → HasValue x false a c → toUnsigned 64 x ≡ min (a / c) (2 ^ 64 - 1)
+unfolding toUnsigned
+part x a c C v = by-value (λ (z : Float). toUnsigned 64 z ≡ min (a / c) (2 ^ 64 - 1)) x a c v λ m e p. ap (λ (n : ℕ). min n (2 ^ 64 - 1)) (div-same (m * up e) (down e) a c (down-pos e) C p)
+
 pub truncated : (x : Float) (a c : ℕ) → 0 < c → HasValue x false a c → a < 2 ^ 64 * c → (toUnsigned 64 x * c ≤ a) × (a < (toUnsigned 64 x + 1) * c)
-truncated x a c C v h = rw (cut x v) (div-mul-le-self a c, div-lt-iff-lt-mul C .0 (omega arith))
-  where
-    cut : (x : Float) → HasValue x false a c → toUnsigned 64 x ≡ a / c
-    cut x v = unfold toUnsigned in by-value (λ (z : Float). toUnsigned 64 z ≡ a / c) x a c v λ m e p. omega (arith, div-same (m * up e) (down e) a c (down-pos e) C p, div-lt-iff-lt-mul C .1 h)
+truncated x a c C v h =
+    let is : toUnsigned 64 x ≡ a / c = omega (arith, part x a c C v, div-lt-iff-lt-mul C .1 h) in
+    rw is (div-mul-le-self a c, div-lt-iff-lt-mul C .0 (omega arith))
+
+-- a whole number's float and back: what it was rounded to, and for 2^64 the top, which no number is rounded to
+module _ (n v : ℕ) (h : n < 2 ^ 64) (is : v ≡ toUnsigned 64 (floatOf n)) where
+  least : v ≡ min (roundedOf n) (2 ^ 64 - 1)
+  least = is ∙ part (floatOf n) (roundedOf n) 1 (lit< tt) (rounded-value n h) ∙ ap (λ (x : ℕ). min x (2 ^ 64 - 1)) (div-one (roundedOf n))
+
+  pub back : (v ≡ 2 ^ 64 - 1 → ⊥) → (v ≡ roundedOf n) × (v < 2 ^ 64 - 1)
+  back ne = let l : v < 2 ^ 64 - 1 = lt-of-le-ne (omega (arith, least)) ne in (omega (arith, least), l)
+
+  pub back-top : v ≡ 2 ^ 64 - 1 → roundedOf n ≡ 2 ^ 64
+  back-top e = elim (decLe (2 ^ 64) (roundedOf n)) [
+    | yes l ↦ omega (arith, rounded-le n h)
+    | no g ↦ let o : roundedOf n ≡ 2 ^ 64 - 1 = omega (arith, least, lt-of-not-le g) in omega (arith, rounded-odd n (rw o))
+  ]
 
 pub truncated-low : (x : Float) → lt (fin true 1 (pos 0)) x ≡ false → toUnsigned 64 x ≡ 0
 unfolding lt toUnsigned

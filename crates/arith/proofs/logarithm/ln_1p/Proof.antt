@@ -1,13 +1,13 @@
 -- `arith::logarithm::ln_1p` meets its contract.
 -- Assumes nothing.
-use Prim.Native.Nat.{_+_, _*_, _^_, _≤_, _<_}
+use Prim.Native.Nat.{_+_, _^_, _≤_, _<_}
 use mathlib.Core.Path.{_≡_, _∙_}
 use native.Mathlib.Nat.{le-of-lt, mul-one}
 use native.Mathlib.Omega.{arith}
 use lib.Dec.{le→leb, lit<, lit≤}
 use lib.Ieee.{binary64, inFloat}
 use Rattle.arith.specs.Whole.{floatOf, roundedOf}
-use Rattle.arith.specs.Whole.Rounding.{kept-le, dropped-le, rounded-le, float-exact}
+use Rattle.arith.specs.Whole.Rounding.{rounded-le, float-exact}
 use Rattle.arith.specs.Whole.Values.{div-of-values}
 use Rattle.arith.specs.Logarithm.{unitsOf}
 use Rattle.arith.specs.Logarithm.Top.{units-is, ln-is, big-ge, big-lt, top-le}
@@ -15,31 +15,19 @@ use Rattle.arith.specs.Logarithm.Value.{units-lt}
 use Rattle.arith.proofs.logarithm.ln_1p.Statement.{statement}
 use Rattle.arith.proofs.logarithm.ln_1p.Tie as tie
 
-value : (c : tie.After-rounded) → c .rounded .result .digits * 2 ^ c .rounded .result .shift ≡ roundedOf (c .before .args .age)
-unfolding roundedOf
-value c = rw (c .rounded .ensures .0, c .rounded .ensures .1)
+value-le : (c : tie.After-normalised) → roundedOf (c .before .args .age) ≤ 2 ^ 64
+value-le c = rounded-le (c .before .args .age) (c .before .fits .age .fits)
 
-value-le : (c : tie.After-rounded) → c .rounded .result .digits * 2 ^ c .rounded .result .shift ≤ 2 ^ 64
-value-le c = rw (value c) (rounded-le (c .before .args .age) (c .before .fits .age .fits))
-
-is : (c : tie.After-units) → c .units .result ≡ unitsOf (roundedOf (c .before .before .before .args .age) + 1)
-is c = rw (units-is _, c .units .ensures, c .before .normalised .ensures .0, c .before .normalised .ensures .1, value (c .before .before))
+is : (c : tie.After-units) → c .units .result ≡ unitsOf (roundedOf (c .before .before .args .age) + 1)
+is c = rw (units-is _, c .units .ensures, c .before .normalised .ensures .0, c .before .normalised .ensures .1)
 
 small : (c : tie.After-units) → c .units .result < 2 ^ 53
-small c = rw (is c) (units-lt _ (omega (arith, rounded-le (c .before .before .before .args .age) (c .before .before .before .fits .age .fits))))
-
-rounded-requires : tie.Need-rounded-requires
-rounded-requires c κs = tt
-
-normalised-requires : tie.Need-normalised-requires
-normalised-requires c κs =
-    let age = c .before .args .age in
-    (omega (arith, kept-le age, c .rounded .ensures .0), omega (arith, dropped-le age (c .before .fits .age .fits), c .rounded .ensures .1), value-le c)
+small c = rw (is c) (units-lt _ (omega (arith, value-le (c .before))))
 
 units-requires : tie.Need-units-requires
 units-requires c κs =
-    let m = c .before .rounded .result .digits * 2 ^ c .before .rounded .result .shift + 1 in
-    omega (arith, c .normalised .ensures, big-ge m (omega arith), big-lt m (omega arith), top-le m 64 (omega (arith, value-le (c .before))))
+    let m = roundedOf (c .before .args .age) + 1 in
+    omega (arith, c .normalised .ensures, big-ge m (omega arith), big-lt m (omega arith), top-le m 64 (omega (arith, value-le c)))
 
 int-to-float-result : tie.Need-int-to-float-result
 unfolding inFloat
@@ -58,10 +46,4 @@ returns c =
 pub ln-1p-spec : {M : Type 1} → statement M
 ln-1p-spec =
     tie.close
-    (tie.spec
-    rounded-requires
-    normalised-requires
-    units-requires
-    int-to-float-result
-    int-to-float-result-2
-    returns)
+    (tie.spec (λ c κs. tt) units-requires int-to-float-result int-to-float-result-2 returns)
