@@ -76,19 +76,11 @@ fn short(need: Ends, words: usize, numbers: usize) -> bool
 fn input_fault(tables: &[u64], keys: &[u8], over: &[u64]) -> u64
     ensures { λ r. ⌜ r ≡ inputFault (now (tables .entry)) (now (keys .entry)) (now (over .entry)) ⌝ }
 {
-    if faults::tables::too_many_tables(tables) {
+    if faults::tables::too_many_tables(tables) | faults::tables::too_many_entries(over) {
         return refusals::TOO_MANY;
     }
-    if faults::tables::too_many_entries(over) {
-        return refusals::TOO_MANY;
-    }
-    if faults::tables::broken_tables(tables) {
-        return refusals::BAD_RECORD;
-    }
-    if faults::tables::broken_keys(tables, keys) {
-        return refusals::BAD_RECORD;
-    }
-    if faults::tables::broken_entries(over) {
+    let keys_out = faults::tables::broken_keys(tables, keys);
+    if faults::tables::broken_tables(tables) | (keys_out | faults::tables::broken_entries(over)) {
         return refusals::BAD_RECORD;
     }
     if faults::tables::levels_out(over) {
