@@ -12,11 +12,12 @@ use borrow.Author.Tests.{ltb-true, ltb-false}
 use Rattle.refusals.specs.Refusals.{none}
 use Rattle.decisions.specs.declared.SchedulingDecision.{SchedulingDecision}
 use Rattle.decisions.specs.Decision.{decisionWidth, decisionWords}
-use Rattle.log.specs.Log.{maxKept, logWords, logBad, keptPlace, nextPlace, nextSequence, numbered, recordFault, recordedOf, recordedWords, keptFrom, keptWords}
+use Rattle.log.specs.Log.{maxKept, logWords, logBad, keptPlace, keptFrom, keptWords}
+use Rattle.recording.specs.Recording.{nextPlace, nextSequence, numbered, recordFault, recordedOf, recordedWords}
 use Rattle.log.specs.Log.Sound.{sound-good}
-use Rattle.log.specs.Log.Kept.{kept-grown, kept-replaced}
-use Rattle.log.specs.Log.Newest.{words-length}
-use Rattle.log.specs.Log.Run.{Logged, started, added, run, refusals, numberedFrom, lastOf, joined}
+use Rattle.recording.specs.Recording.Kept.{kept-grown, kept-replaced}
+use Rattle.recording.specs.Recording.Newest.{words-length}
+use Rattle.recording.specs.Recording.Run.{Logged, started, added, run, refusals, numberedFrom, lastOf, joined}
 
 -- ---- the words of decisions in a row
 

@@ -1,8 +1,8 @@
--- `log::record_fault` meets its contract.
-use Rattle.log.specs.Log.{recordFault}
+-- `recording::record_fault` meets its contract.
+use Rattle.recording.specs.Recording.{recordFault}
 use mathlib.Core.Path.{sym, _∙_}
-use Rattle.log.proofs.record_fault.Statement.{statement}
-use Rattle.log.proofs.record_fault.Tie as tie
+use Rattle.recording.proofs.record_fault.Statement.{statement}
+use Rattle.recording.proofs.record_fault.Tie as tie
 
 log-bad-requires : tie.Need-log-bad-requires
 log-bad-requires c κs = tt

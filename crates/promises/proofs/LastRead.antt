@@ -7,10 +7,10 @@ use Rattle.refusals.specs.Refusals.{none}
 use Rattle.decisions.specs.declared.SchedulingDecision.{SchedulingDecision}
 use Rattle.decisions.specs.Decision.{decisionWidth}
 use Rattle.log.specs.Log.{maxKept, logWords}
-use Rattle.log.specs.Log.Run.{started, run, numberedFrom, lastOf, joined}
-use Rattle.log.specs.Log.Last.{last-good, last-count, last-kept}
+use Rattle.recording.specs.Recording.Run.{started, run, numberedFrom, lastOf, joined}
+use Rattle.recording.specs.Recording.Last.{last-good, last-count, last-kept}
 use Rattle.recent.specs.Recent.{recentOf, recentOut}
 use Rattle.recent.specs.Recent.Sound.{good-read}
 
 -- to any buffer with room for them
 pub last-read : (ws : List ℕ) → length ws ≡ logWords → (ds : List SchedulingDecision) (out : List ℕ) → decisionWidth * min (length ds) maxKept ≤ length out

@@ -3,9 +3,10 @@ use Prim.Native.Nat.{ℕ, suc, _-_, _^_, min}
 use mathlib.Core.List.{List, [], _∷_, _++_}
 use lib.ListN.{length, drop}
 use Rattle.decisions.specs.declared.SchedulingDecision.{SchedulingDecision}
 use Rattle.log.specs.declared.DecisionLog.{DecisionLog}
 use Rattle.decisions.specs.Decision.{decisionWords}
-use Rattle.log.specs.Log.{emptyLog, numbered, recordedOf, recordedWords}
+use Rattle.log.specs.Log.{emptyLog}
+use Rattle.recording.specs.Recording.{numbered, recordedOf, recordedWords}
 
 -- a log beside its words
 pub record Logged : Type 0 where

@@ -1,8 +1,8 @@
--- `log::next_place` meets its contract.
-use Rattle.log.specs.Log.{nextPlace}
+-- `recording::next_place` meets its contract.
+use Rattle.recording.specs.Recording.{nextPlace}
 use borrow.Author.Tests.{lt-ltb, le-ltb}
-use Rattle.log.proofs.next_place.Statement.{statement}
-use Rattle.log.proofs.next_place.Tie as tie
+use Rattle.recording.proofs.next_place.Statement.{statement}
+use Rattle.recording.proofs.next_place.Tie as tie
 
 kept-place-requires : tie.Need-kept-place-requires
 kept-place-requires c κs = tt

@@ -1,12 +1,12 @@
--- `log::record_decision` meets its contract.
+-- `recording::record_decision` meets its contract.
 use mathlib.Core.Path.{sym, _∙_}
 use borrow.Author.Tests.{eq-eqb, ne-eqb}
-use Rattle.log.specs.Log.{recordedOf, recordedWords}
-use Rattle.log.specs.Log.Sound.{record-sound, next-small}
+use Rattle.recording.specs.Recording.{recordedOf, recordedWords}
+use Rattle.recording.specs.Recording.Sound.{record-sound, next-small}
 use native.Mathlib.Omega.{arith}
 use borrow.Author.Needs.{needs}
-use Rattle.log.proofs.record_decision.Statement.{statement}
-use Rattle.log.proofs.record_decision.Tie as tie
+use Rattle.recording.proofs.record_decision.Statement.{statement}
+use Rattle.recording.proofs.record_decision.Tie as tie
 
 record-fault-requires : tie.Need-record-fault-requires
 record-fault-requires c κs = tt

@@ -11,10 +11,11 @@ use lib.Seq.{sets, length-sets}
 use Rattle.refusals.specs.Refusals.{none, badLog}
 use Rattle.decisions.specs.declared.SchedulingDecision.{SchedulingDecision}
 use Rattle.decisions.specs.Decision.{decisionWidth, decisionWords}
 use Rattle.log.specs.declared.DecisionLog.{DecisionLog}
-use Rattle.log.specs.Log.{maxKept, logBad, keptPlace, nextPlace, nextSequence, numbered, recordFault, recordedOf, recordedWords, keptFrom, keptWords}
+use Rattle.log.specs.Log.{maxKept, logBad, keptPlace, keptFrom, keptWords}
+use Rattle.recording.specs.Recording.{nextPlace, nextSequence, numbered, recordFault, recordedOf, recordedWords}
 use Rattle.log.specs.Log.Sound.{Sound, is-sound, sound-good}
-use Rattle.log.specs.Log.Kept.{kept-grown, kept-replaced}
+use Rattle.recording.specs.Recording.Kept.{kept-grown, kept-replaced}
 
 module _ (g : DecisionLog) (n : ℕ) where
   pub add-refused : logBad g n ≡ true → recordedOf g n .refusal ≡ badLog
