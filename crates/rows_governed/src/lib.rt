@@ -2,8 +2,6 @@
 mod lent;
 
 use arith::floats;
-use engine::EngineSample;
-use engine::ReadAmpStats;
 use kinds::kind::CandidateKind;
 use pressure::PressureSample;
 use pressure::pacing;
@@ -14,6 +12,8 @@ use rows_words::words::WORDS;
 use snapshot::SnapshotAnswer;
 use state::GovernorState;
 use state::Observed;
+use windows::EngineSample;
+use windows::ReadAmpStats;
 
 fn kind_of(kind: u64, level: u32, batch_len: u64) -> CandidateKind {
     match kind {

@@ -1,10 +1,10 @@
--- `engine::probe_sum_full` meets its contract.
+-- `windows::probe_sum_full` meets its contract.
 use Prim.Native.Nat.{_-_, _^_}
 use Rattle.state.specs.Room.{room}
 use native.Mathlib.Omega.{arith}
 use borrow.Author.Needs.{needs}
-use Rattle.engine.proofs.probe_sum_full.Statement.{statement}
-use Rattle.engine.proofs.probe_sum_full.Tie as tie
+use Rattle.windows.proofs.probe_sum_full.Statement.{statement}
+use Rattle.windows.proofs.probe_sum_full.Tie as tie
 
 sub-result : tie.Need-sub-result
 sub-result c = search needs

@@ -1,6 +1,6 @@
--- `engine::deltas_large` meets its contract.
-use Rattle.engine.proofs.deltas_large.Statement.{statement}
-use Rattle.engine.proofs.deltas_large.Tie as tie
+-- `windows::deltas_large` meets its contract.
+use Rattle.windows.proofs.deltas_large.Statement.{statement}
+use Rattle.windows.proofs.deltas_large.Tie as tie
 
 probed-large-requires : tie.Need-probed-large-requires
 probed-large-requires c κs = tt

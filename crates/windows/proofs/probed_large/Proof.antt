@@ -1,13 +1,13 @@
--- `engine::probed_large` meets its contract.
+-- `windows::probed_large` meets its contract.
 use Rattle.state.specs.Room.{sub-parts}
-use Rattle.engine.specs.Engine.{probedSince}
+use Rattle.windows.specs.Windows.{probedSince}
 use Rattle.counts.specs.Counts.{large}
 use borrow.Author.Tests.{ltb-true, ltb-false, lt-ltb}
 use Prim.Native.Nat.{_^_}
 use mathlib.Core.Path.{sym, ap, _∙_}
 use native.Mathlib.Omega.{arith}
-use Rattle.engine.proofs.probed_large.Statement.{statement}
-use Rattle.engine.proofs.probed_large.Tie as tie
+use Rattle.windows.proofs.probed_large.Statement.{statement}
+use Rattle.windows.proofs.probed_large.Tie as tie
 
 saturating-sub-requires : tie.Need-saturating-sub-requires
 saturating-sub-requires c κs = tt

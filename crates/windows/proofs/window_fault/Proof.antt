@@ -1,7 +1,7 @@
--- `engine::window_fault` meets its contract.
-use Rattle.engine.specs.Engine.WindowFault.{windowFault}
-use Rattle.engine.proofs.window_fault.Statement.{statement}
-use Rattle.engine.proofs.window_fault.Tie as tie
+-- `windows::window_fault` meets its contract.
+use Rattle.windows.specs.Windows.{windowFault}
+use Rattle.windows.proofs.window_fault.Statement.{statement}
+use Rattle.windows.proofs.window_fault.Tie as tie
 
 is-sound-requires : tie.Need-is-sound-requires
 is-sound-requires c κs = tt

@@ -1,6 +1,6 @@
--- `engine::resolved_since` meets its contract.
-use Rattle.engine.proofs.resolved_since.Statement.{statement}
-use Rattle.engine.proofs.resolved_since.Tie as tie
+-- `windows::resolved_since` meets its contract.
+use Rattle.windows.proofs.resolved_since.Statement.{statement}
+use Rattle.windows.proofs.resolved_since.Tie as tie
 
 resolved-sum-requires : tie.Need-resolved-sum-requires
 resolved-sum-requires c κs = tt
