@@ -1,5 +1,5 @@
-// The calls of kinds, state, pressure, governor, engine, report and snapshot.
-mod lent;
+// The calls of kinds, state, pressure, governor, engine, report, lent and snapshot.
+mod lending;
 
 use arith::floats;
 use kinds::kind::CandidateKind;
@@ -59,8 +59,8 @@ fn observed(call: u64, s: GovernorState, args: &[u64; WORDS]) -> Observed {
         40 => engine::observe_engine(s, args[28], engine_sample(args), read_amp(args)),
         41 => report::with_trivial_move(s, args[28]),
         42 => report::with_outcome(s, args[28], args[29]),
-        43 => lent::moved(s, args[28]),
-        _ => lent::outcome(s, args[28], args[29]),
+        43 => lending::moved(s, args[28]),
+        _ => lending::outcome(s, args[28], args[29]),
     }
 }
 

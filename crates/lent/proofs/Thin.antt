@@ -37,7 +37,7 @@ use denote.Triple.Spec.{Meets, tripleOf}
 use denote.Triple.Walked.{says, Stays, stay-ref, hasOf, walkOf, AllGo, goes-ref, Walks, ends-at, walked, walk-meets}
 use denote.Triple.Clauses.{Ended, Clauses, closing, ensured, lasts}
 use denote.Exit.{yes}
-use Rattle.report.proofs.Params.{Plain, Args, slots, locals, copies, past, rows, get, spells, tells-all, valss-all, Good, lasts-all, stays, fits-all, over, get-over, good-over, makes-all, held, goes-all, cells, alloc-all, free-all, pass-all, forget-all, later-found, found, found-past, lies, reads-all}
+use Rattle.lent.proofs.Params.{Plain, Args, slots, locals, copies, past, rows, get, spells, tells-all, valss-all, Good, lasts-all, stays, fits-all, over, get-over, good-over, makes-all, held, goes-all, cells, alloc-all, free-all, pass-all, forget-all, later-found, found, found-past, lies, reads-all}
 
 abbrev vals : (S : Plain) → S .R .Denot → List Val
 vals S h = S .val h ∷ []

@@ -1,11 +1,11 @@
--- What a call answers, made of a refusal and a governor's state, as `proofs/lent/Lender.antt` takes it.
+-- What a call answers, made of a refusal and a governor's state, as `proofs/lending/Lender.antt` takes it.
 -- Assumes nothing.
 use mathlib.Core.Path.{refl}
 use denote.Struct.Laws as LL
-use Rattle.report.proofs.Lent.{governor, observed}
+use Rattle.lent.proofs.Lent.{governor, observed}
 use Rattle.state.proofs.Observed as O
 use Rattle.state.proofs.Observed.Laws as O′
-use Rattle.rows_governed.proofs.lent.Lender.{Made}
+use Rattle.rows_governed.proofs.lending.Lender.{Made}
 
 abbrev pub made : Made governor observed
 made =

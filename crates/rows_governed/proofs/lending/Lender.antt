@@ -1,4 +1,4 @@
--- One law for each function that lends a state of its own to a thin function over a state behind a `&mut` (report's `proofs/Thin.antt`), of the shape
+-- One law for each function that lends a state of its own to a thin function over a state behind a `&mut` (lent's `proofs/Thin.antt`), of the shape
 --     fn NAME(mut g: STATE, ..) -> ANSWER { let refusal = CALLEE(&mut g, ..); ANSWER { refusal, state: g } }
 -- with any list of parameters of plain data after the first, whose contract says that the answer's two fields are what the callee's function of `specs/` gives. It walks the function's MIR: a lifetime is made for the call, the state is lent for it, and taken back at its last value. A proof cites `lender-meets`.
 -- Assumes nothing.
@@ -37,9 +37,9 @@ use denote.Triple.Spec.{Meets, tripleOf}
 use denote.Triple.Walked.{says, Stays, hasOf, walkOf, Walks, ends-at, walked, walk-meets}
 use denote.Triple.Clauses.{Clauses, closing, ensured}
 use denote.Exit.{yes}
-use Rattle.report.proofs.Params.{Plain, Args, slots, locals, copies, past, rows, get, spells, tells-all, valss-all, Good, lasts-all, stays, fits-all, over, get-over, good-over, makes-all, held, goes-all, cells, alloc-all, free-all, pass-all, forget-all, later-found, found, found-past, lies, reads-all}
-use Rattle.report.proofs.Thin.{Answer}
-use Rattle.report.proofs.Thin as Thin
+use Rattle.lent.proofs.Params.{Plain, Args, slots, locals, copies, past, rows, get, spells, tells-all, valss-all, Good, lasts-all, stays, fits-all, over, get-over, good-over, makes-all, held, goes-all, cells, alloc-all, free-all, pass-all, forget-all, later-found, found, found-past, lies, reads-all}
+use Rattle.lent.proofs.Thin.{Answer}
+use Rattle.lent.proofs.Thin as Thin
 
 abbrev vals : (S : Plain) → S .R .Denot → List Val
 vals S h = S .val h ∷ []

@@ -2,8 +2,8 @@
 -- Assumes nothing.
 use mathlib.Core.Path.{refl}
 use denote.Struct.Laws as LL
-use Rattle.report.proofs.Params.{Plain}
-use Rattle.report.proofs.Thin.{Answer}
+use Rattle.lent.proofs.Params.{Plain}
+use Rattle.lent.proofs.Thin.{Answer}
 use Rattle.state.proofs.GovernorState as T
 use Rattle.state.proofs.GovernorState.Laws as T′
 use Rattle.state.proofs.Observed as O

@@ -7,13 +7,13 @@ use state::Observed;
 pub(crate) fn moved(mut g: GovernorState, bytes_avoided: u64) -> Observed
     ensures { λ r. ⌜ (r .state ≡ trivialMoveOf g «bytes_avoided» .state) × (r .refusal ≡ trivialMoveOf g «bytes_avoided» .refusal) ⌝ }
 {
-    let refusal = report::record_trivial_move(&mut g, bytes_avoided);
+    let refusal = lent::record_trivial_move(&mut g, bytes_avoided);
     Observed { refusal, state: g }
 }
 
 pub(crate) fn outcome(mut g: GovernorState, predicted: u64, actual: u64) -> Observed
     ensures { λ r. ⌜ (r .state ≡ outcomeOf g predicted actual .state) × (r .refusal ≡ outcomeOf g predicted actual .refusal) ⌝ }
 {
-    let refusal = report::record_outcome(&mut g, predicted, actual);
+    let refusal = lent::record_outcome(&mut g, predicted, actual);
     Observed { refusal, state: g }
 }
