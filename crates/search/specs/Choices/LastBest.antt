@@ -4,7 +4,7 @@ use mathlib.Core.Logic.{_⊎_, inl, inr, ⊎-elim}
 use mathlib.Core.Bool.{Bool, true, false, cond, true≢false}
 use mathlib.Core.List.{List, [], _∷_, List·Memᴰ, List·Memᴰ·head, List·Memᴰ·tail, List·Memᴰ·not-nil, List·Memᴰ·cases-cons, List·Memᴰ·eq-of-singleton}
 use Rattle.lists.specs.Filter.{filterOf, filter-in}
-use Rattle.scores.specs.Choices.{Choice, lastFrom, lastBest}
+use Rattle.search.specs.Choices.{Choice, lastFrom, lastBest}
 
 abbrev pub Each : (Choice → Type 0) → List Choice → Type 0
 Each P cs = (c : Choice) → List·Memᴰ c cs → P c

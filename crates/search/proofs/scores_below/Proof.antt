@@ -1,12 +1,12 @@
--- `scores::search::scores_below` meets its contract.
+-- `search::scores_below` meets its contract.
 use mathlib.Core.Path.{_≡_, refl}
 use mathlib.Core.Bool.{false}
 use lib.Ieee.{Float, nan, inf, fin, lt}
 use lib.ListN.{List·getD-eq-default}
 use native.Mathlib.Omega.{arith}
 use borrow.Author.Needs.{needs}
-use Rattle.scores.proofs.search.scores_below.Statement.{statement}
-use Rattle.scores.proofs.search.scores_below.Tie as tie
+use Rattle.search.proofs.scores_below.Statement.{statement}
+use Rattle.search.proofs.scores_below.Tie as tie
 
 below-none : (x : Float) → false ≡ lt x nan
 unfolding lt

@@ -1,15 +1,15 @@
--- `scores::search::first_l0` meets its contract.
+-- `search::first_l0` meets its contract.
 use mathlib.Core.Path.{_≡_, refl, sym, _∙_}
 use Prim.Native.Nat.{_-_, _≤_}
 use lib.ListN.{length, drop}
 use denote.Ref.{now}
 use Rattle.records.specs.Candidates.{candidatesOf}
-use Rattle.scores.specs.Search.{firstL0}
-use Rattle.scores.specs.Search.Reading.{l0-here, l0-next, l0-end}
+use Rattle.search.specs.Search.{firstL0}
+use Rattle.search.specs.Search.Reading.{l0-here, l0-next, l0-end}
 use borrow.Author.Needs.{needs}
 use native.Mathlib.Omega.{arith}
-use Rattle.scores.proofs.search.first_l0.Statement.{statement}
-use Rattle.scores.proofs.search.first_l0.Tie as tie
+use Rattle.search.proofs.first_l0.Statement.{statement}
+use Rattle.search.proofs.first_l0.Tie as tie
 
 abbrev Inv-loop : tie.InvT-loop
 Inv-loop candidates n i₀ i = (i ≤ length (candidatesOf candidates)) × (firstL0 0 (candidatesOf candidates) ≡ firstL0 i (drop i (candidatesOf candidates)))

@@ -21,9 +21,9 @@ use Rattle.records.specs.declared.candidate.Candidate.{Candidate}
 use Rattle.records.specs.declared.candidate.CandidateEstimate.{CandidateEstimate}
 use Rattle.records.specs.Candidates.{candidatesOf, estimatesOf, candidateAt, estimateAt, noCandidate, noEstimate}
 use Rattle.kinds.specs.declared.winner.Winner.the-variants.{None as NoWinner, At}
 use Rattle.scores.specs.Score.{scoreOf}
-use Rattle.scores.specs.Choices.{Choice, choicesFrom, isL0Choice, winnerOf}
-use Rattle.scores.specs.Search.{scoresOf, scoreArray, readChoice, readChoices, firstL0}
+use Rattle.search.specs.Choices.{Choice, choicesFrom, isL0Choice, winnerOf}
+use Rattle.search.specs.Search.{scoresOf, scoreArray, readChoice, readChoices, firstL0}
 
 abbrev pub noChoice : Choice
 noChoice = record { place = 0; kind = 0; level = 0; batchLen = 0; relief = f0; score = f0 }

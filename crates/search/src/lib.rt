@@ -5,13 +5,13 @@ ghost use Prim.Native.Nat.{ℕ};
 ghost use lib.Ieee.{Float, nan, lt};
 ghost use lib.ListN.{getD};
 ghost use Rattle.records.specs.Candidates.{candidatesOf, estimatesOf};
-ghost use Rattle.scores.specs.Choices.{saturated};
-ghost use Rattle.scores.specs.Search.{scoreArray, firstL0, readChoice, readChoices, compared, below, bestOf, heldIn, loses};
-use crate::score;
+ghost use Rattle.search.specs.Choices.{saturated};
+ghost use Rattle.search.specs.Search.{scoreArray, firstL0, readChoice, readChoices, compared, below, bestOf, heldIn, loses};
 use faults::limits::MAX_CANDIDATES;
 use kinds::vector::PressureVector;
 use kinds::winner::Winner;
 use records::candidate;
+use scores::cause_aware_score;
 
 pub type Scores = [f64; MAX_CANDIDATES];
 
@@ -34,7 +34,7 @@ pub fn all_scores(vector: PressureVector, estimates: &[u64]) -> Scores
             return scores;
         }
         let e = candidate::estimate_at(estimates, i);
-        scores[i] = score::cause_aware_score(vector, e);
+        scores[i] = cause_aware_score(vector, e);
         i += 1;
     }
     scores

@@ -1,7 +1,7 @@
--- `scores::search::saturated_at` meets its contract.
+-- `search::saturated_at` meets its contract.
 use borrow.Author.Tests.{eq-eqb, ne-eqb}
-use Rattle.scores.proofs.search.saturated_at.Statement.{statement}
-use Rattle.scores.proofs.search.saturated_at.Tie as tie
+use Rattle.search.proofs.saturated_at.Statement.{statement}
+use Rattle.search.proofs.saturated_at.Tie as tie
 
 candidate-at-requires : tie.Need-candidate-at-requires
 candidate-at-requires c κs = tt

@@ -1,6 +1,6 @@
--- `scores::search::last_best` meets its contract. The best of the first `i` places is held.
-use Rattle.scores.specs.Search.Pass.{Held, held-start, held-next, held-end}
-use Rattle.scores.specs.Search.{readChoice}
+-- `search::last_best` meets its contract. The best of the first `i` places is held.
+use Rattle.search.specs.Search.Pass.{Held, held-start, held-next, held-end}
+use Rattle.search.specs.Search.{readChoice}
 use Rattle.records.specs.Candidates.{candidatesOf}
 use denote.Ref.{now}
 use lib.ListN.{length}
@@ -10,8 +10,8 @@ use borrow.Author.Tests.{not-true, not-false}
 use Prim.Native.Nat.{_-_, _≤_}
 use borrow.Author.Needs.{needs}
 use native.Mathlib.Omega.{arith}
-use Rattle.scores.proofs.search.last_best.Statement.{statement}
-use Rattle.scores.proofs.search.last_best.Tie as tie
+use Rattle.search.proofs.last_best.Statement.{statement}
+use Rattle.search.proofs.last_best.Tie as tie
 
 abbrev Inv-loop : tie.InvT-loop
 Inv-loop search candidates estimates scores n best₀ i₀ best i = (i ≤ length (candidatesOf candidates)) × Held search (readChoice candidates estimates scores) (length (candidatesOf candidates)) best i

@@ -1,7 +1,7 @@
--- `scores::search::is_below_best` meets its contract.
+-- `search::is_below_best` meets its contract.
 use borrow.Author.Needs.{needs}
-use Rattle.scores.proofs.search.is_below_best.Statement.{statement}
-use Rattle.scores.proofs.search.is_below_best.Tie as tie
+use Rattle.search.proofs.is_below_best.Statement.{statement}
+use Rattle.search.proofs.is_below_best.Tie as tie
 
 enum-told : tie.Need-enum-told
 enum-told c = search needs

@@ -1,8 +1,8 @@
--- `scores::search::is_compared` meets its contract.
+-- `search::is_compared` meets its contract.
 use borrow.Author.Tests.{eq-eqb, ne-eqb}
 use borrow.Author.Needs.{needs}
-use Rattle.scores.proofs.search.is_compared.Statement.{statement}
-use Rattle.scores.proofs.search.is_compared.Tie as tie
+use Rattle.search.proofs.is_compared.Statement.{statement}
+use Rattle.search.proofs.is_compared.Tie as tie
 
 candidate-at-requires : tie.Need-candidate-at-requires
 candidate-at-requires c κs = tt

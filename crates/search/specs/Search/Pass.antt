@@ -12,10 +12,10 @@ use Rattle.lists.specs.Filter.{filterOf, filter-append, filter-both, filter-all
 use Rattle.lists.specs.Records.{tabulate, tabulate-length, tabulate-at}
 use Rattle.kinds.specs.declared.winner.Winner.{Winner}
 use Rattle.kinds.specs.declared.winner.Winner.the-variants.{None as NoWinner, At}
-use Rattle.scores.specs.declared.search.Search.{Search}
-use Rattle.scores.specs.declared.search.Search.the-variants.{All, OfLevel, Batches}
-use Rattle.scores.specs.Choices.{Choice, lastFrom, lastBest, saturated, onLevel}
-use Rattle.scores.specs.Search.{compared, below, bestOf, heldIn, loses}
+use Rattle.search.specs.declared.Search.{Search}
+use Rattle.search.specs.declared.Search.the-variants.{All, OfLevel, Batches}
+use Rattle.search.specs.Choices.{Choice, lastFrom, lastBest, saturated, onLevel}
+use Rattle.search.specs.Search.{compared, below, bestOf, heldIn, loses}
 
 -- what is kept of the best so far and one more
 abbrev keep : (Choice → Choice → Bool) → List Choice → Choice → List Choice

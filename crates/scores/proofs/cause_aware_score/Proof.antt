@@ -1,7 +1,7 @@
--- `scores::score::cause_aware_score` meets its contract.
+-- `scores::cause_aware_score` meets its contract.
 use Rattle.scores.specs.Score.{benefitOf, scoreOf}
-use Rattle.scores.proofs.score.cause_aware_score.Statement.{statement}
-use Rattle.scores.proofs.score.cause_aware_score.Tie as tie
+use Rattle.scores.proofs.cause_aware_score.Statement.{statement}
+use Rattle.scores.proofs.cause_aware_score.Tie as tie
 
 at-least-one-requires : tie.Need-at-least-one-requires
 at-least-one-requires c κs = tt

@@ -1,4 +1,4 @@
--- `scores::search::all_scores` meets its contract. What is left of the scores would complete the array.
+-- `search::all_scores` meets its contract. What is left of the scores would complete the array.
 use mathlib.Core.Path.{_≡_, refl}
 use Prim.Native.Nat.{_-_, _≤_}
 use native.Mathlib.Numerals.{add-one}
@@ -6,12 +6,12 @@ use lib.Seq.{sets}
 use lib.ListN.{length, drop}
 use denote.Ref.{now}
 use Rattle.records.specs.Candidates.{estimatesOf}
-use Rattle.scores.specs.Search.{scoresOf, scoreArray}
-use Rattle.scores.specs.Search.Reading.{scores-more, scores-full, scores-end}
+use Rattle.search.specs.Search.{scoresOf, scoreArray}
+use Rattle.search.specs.Search.Reading.{scores-more, scores-full, scores-end}
 use borrow.Author.Needs.{needs}
 use native.Mathlib.Omega.{arith}
-use Rattle.scores.proofs.search.all_scores.Statement.{statement}
-use Rattle.scores.proofs.search.all_scores.Tie as tie
+use Rattle.search.proofs.all_scores.Statement.{statement}
+use Rattle.search.proofs.all_scores.Tie as tie
 
 abbrev Inv-loop : tie.InvT-loop
 Inv-loop vector estimates n scores₀ i₀ scores i = (i ≤ length (estimatesOf estimates)) × (sets scores i (scoresOf vector (drop i (estimatesOf estimates))) ≡ scoreArray vector (estimatesOf estimates))

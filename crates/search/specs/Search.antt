@@ -17,11 +17,11 @@ use Rattle.records.specs.declared.candidate.CandidateEstimate.{CandidateEstimat
 use Rattle.records.specs.Candidates.{candidatesOf, estimatesOf, candidateAt, estimateAt}
 use Rattle.kinds.specs.declared.winner.Winner.{Winner}
 use Rattle.kinds.specs.declared.winner.Winner.the-variants.{None as NoWinner, At}
-use Rattle.scores.specs.declared.search.Search.{Search}
-use Rattle.scores.specs.declared.search.Search.the-variants.{All, OfLevel, Batches}
+use Rattle.search.specs.declared.Search.{Search}
+use Rattle.search.specs.declared.Search.the-variants.{All, OfLevel, Batches}
 use Rattle.faults.specs.Limits.{maxCandidates}
 use Rattle.scores.specs.Score.{scoreOf}
-use Rattle.scores.specs.Choices.{Choice, lastBest, lowerScore, shorter, saturated, onLevel}
+use Rattle.search.specs.Choices.{Choice, lastBest, lowerScore, shorter, saturated, onLevel}
 
 -- ---- what is read
 
