@@ -20,7 +20,7 @@ use Rattle.kinds.specs.declared.tier.SelectionTier.the-variants.{None as NoTier
 use Rattle.kinds.specs.declared.winner.Winner.{Winner}
 use Rattle.kinds.specs.declared.winner.Winner.the-variants.{None as NoWinner, At}
 use Rattle.choice.specs.declared.Picked.{Picked}
-use Rattle.scores.specs.Choices.{Choice, lastBest, lowerScore, shorter, isL0Choice, onLevel, saturated, winnerOf}
+use Rattle.search.specs.Choices.{Choice, lastBest, lowerScore, shorter, isL0Choice, onLevel, saturated, winnerOf}
 
 -- a saturated best yields to the longest such batch of its level, the last on a tie
 unfoldable pub yields : List Choice → List Choice → List Choice

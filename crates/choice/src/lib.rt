@@ -2,8 +2,8 @@
 ghost use mathlib.Core.Path.{_≡_};
 ghost use Prim.Native.Nat.{_<_};
 ghost use Rattle.candidate_records.specs.Candidates.{candidatesOf, estimatesOf};
-ghost use Rattle.scores.specs.Choices.{choicesFrom, lastBest, lowerScore, winnerOf};
-ghost use Rattle.scores.specs.Search.{readChoices};
+ghost use Rattle.search.specs.Choices.{choicesFrom, lastBest, lowerScore, winnerOf};
+ghost use Rattle.search.specs.Search.{readChoices};
 ghost use Rattle.choice.specs.Choice.{bestWithin, focusMaxJobs, answerOf, reselected, topLevel, continued, choiceOf};
 ghost use Rattle.choice.specs.Choice.Call.{brokenPairs, pickFault, pickedOf};
 ghost use Rattle.choice.specs.Choice.Accepted.{LevelsFit, Pickable};
@@ -12,9 +12,8 @@ use kinds::focus::FocusState;
 use kinds::tier::SelectionTier;
 use kinds::vector::PressureVector;
 use kinds::winner::Winner;
-use scores::search;
-use scores::search::Scores;
-use scores::search::Search;
+use search::Scores;
+use search::Search;
 
 // So many jobs in a row go to one level before the best score overall decides anew.
 const FOCUS_MAX_CONSECUTIVE_JOBS: u32 = 3;

@@ -1,40 +1,24 @@
 -- The observation of the running engine: a window over its read counters since the last one. Definitions only.
 pub mod WindowFault
-use Prim.Native.Nat.{ℕ, _+_, _-_, _^_}
-use mathlib.Core.Bool.{Bool, cond, not, _||_}
+use Prim.Native.Nat.{ℕ, _-_, _^_}
+use mathlib.Core.Bool.{cond, not, _||_}
 use mathlib.Core.List.{List, [], _∷_}
 use lib.Dec.{ltb}
 use lib.Ieee.{Float, binary64, div}
 use Rattle.arith.specs.Whole.{floatOf}
-use Rattle.counts.specs.Counts.{large, anyLarge}
+use Rattle.counts.specs.Counts.{anyLarge}
 use Rattle.refusals.specs.Refusals.{Check, _gives_, firstFault, badState, tooLarge, counterFull}
 use Rattle.state.specs.declared.GovernorState.{GovernorState}
 use Rattle.state.specs.declared.Observed.{Observed}
 use Rattle.state.specs.declared.Window.{Window}
 use Rattle.pressure.specs.declared.PressureSample.{PressureSample}
-use Rattle.engine.specs.declared.ReadAmpStats.{ReadAmpStats}
-use Rattle.engine.specs.declared.EngineSample.{EngineSample}
+use Rattle.windows.specs.declared.ReadAmpStats.{ReadAmpStats}
+use Rattle.windows.specs.declared.EngineSample.{EngineSample}
+use Rattle.windows.specs.Windows.{probedSum, resolvedSum, probedSince, resolvedSince, deltasLarge}
 use Rattle.kinds.specs.Tuning.{Tuning}
 use Rattle.modes.specs.Mode.{soundOf}
 use Rattle.governor.specs.Observe.{countersFull, acceptedOf}
 use Rattle.state.specs.State.{answered}
-
--- exact: it may pass 2^64 - 1
-abbrev pub probedSum : ReadAmpStats → ℕ
-probedSum a = a .«l0_tables_probed» + a .«leveled_tables_probed»
-
-abbrev pub resolvedSum : ReadAmpStats → ℕ
-resolvedSum a = a .«gets_total» - a .«resolved_in_memtable» - a .«resolved_in_immutable»
-
--- what is new since the last observation, 0 where a sum fell
-abbrev pub probedSince : Window → ReadAmpStats → ℕ
-probedSince w a = probedSum a - w .«last_probed»
-
-abbrev pub resolvedSince : Window → ReadAmpStats → ℕ
-resolvedSince w a = resolvedSum a - w .«last_resolved»
-
-abbrev pub deltasLarge : Window → ReadAmpStats → Bool
-deltasLarge w a = large (probedSince w a) || large (resolvedSince w a)
 
 -- with no resolved gets the old smoothed value is fed in again
 unfoldable pub perGet : Window → Float → ReadAmpStats → Float

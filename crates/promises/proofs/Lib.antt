@@ -16,4 +16,5 @@ pub mod ProbeBelow
 pub mod Chain
 pub mod Estimable
 pub mod Round
+pub mod LastRead
 pub mod Governed

@@ -31,7 +31,7 @@ use Rattle.choice.specs.Choice.Focus.{won-accepted}
 use Rattle.decisions.specs.Decision.{chosenGood}
 use Rattle.decisions.specs.Decision.RoundTrip.{words-good}
 use Rattle.trace.specs.Laws.{decision-low, chosen-none, chosen-at, chosen-said}
-use Rattle.log.specs.Log.Newest.{add-refused, add-accepted, newest-kept, stays-good}
+use Rattle.recording.specs.Recording.Newest.{add-refused, add-accepted, newest-kept, stays-good}
 use Rattle.promises.specs.Round.{RoundInput, vector, generated, asked, picked, decided, candidates, Says, Generates, Estimates, Round}
 use Rattle.promises.specs.Vector.{InUnits}
 use Rattle.promises.proofs.Chain.{chain}

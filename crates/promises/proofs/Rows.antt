@@ -34,7 +34,7 @@ use Rattle.estimates.specs.Estimate.{lookup, bytesOf, oldestFrom, oldestOf, fir
 use Rattle.estimate_faults.specs.Faults.{estimateFault}
 use Rattle.estimates.specs.Estimate.Call.{estimatedOf}
 use Rattle.scores.specs.Score.{benefitOf, scoreOf}
-use Rattle.scores.specs.Choices.{choicesFrom, lastFrom, lastBest}
+use Rattle.search.specs.Choices.{choicesFrom, lastFrom, lastBest}
 use Rattle.choice.specs.Choice.{yields, bestWithin, reselectedBy, focused, firstOr, choiceOf}
 use Rattle.choice.specs.Choice.Call.{pickFault, pickedOf}
 use Rattle.arith.specs.Root.{withDigit, floorRoot, nearestRoot, rootShift, rootDigits, rootOf}

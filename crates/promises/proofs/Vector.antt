@@ -25,9 +25,10 @@ use Rattle.state.specs.declared.GovernorState.{GovernorState}
 use Rattle.state.specs.declared.Window.{Window}
 use Rattle.state.specs.State.{freshOf}
 use Rattle.pressure.specs.Pressure.Range.{Ranged, signals-ranged}
-use Rattle.engine.specs.declared.ReadAmpStats.{ReadAmpStats}
+use Rattle.windows.specs.declared.ReadAmpStats.{ReadAmpStats}
 use Rattle.governor.specs.Observe.{acceptedOf}
-use Rattle.engine.specs.Engine.{resolvedSince, probedSince, perGet, sampleOf}
+use Rattle.windows.specs.Windows.{resolvedSince, probedSince}
+use Rattle.engine.specs.Engine.{perGet, sampleOf}
 use Rattle.report.specs.Counters.{chosenOf, moveFault, trivialMoveOf, outcomeFault, outcomeOf}
 use Rattle.snapshot.specs.Snapshot.{snapshotOf, snapshotRefusal}
 use Rattle.choice.specs.Choice.Call.{pickChecks, pickFault, pickedOf}

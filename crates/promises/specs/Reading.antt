@@ -10,8 +10,8 @@ use Rattle.arith.specs.Whole.{floatOf}
 use Rattle.kinds.specs.declared.mode.GovernorMode.{GovernorMode}
 use Rattle.kinds.specs.declared.mode.GovernorMode.the-variants.{Balanced, ReadProtect, WriteEmergency}
 use Rattle.pressure.specs.declared.PressureSample.{PressureSample}
-use Rattle.engine.specs.declared.EngineSample.{EngineSample}
-use Rattle.engine.specs.declared.ReadAmpStats.{ReadAmpStats}
+use Rattle.windows.specs.declared.EngineSample.{EngineSample}
+use Rattle.windows.specs.declared.ReadAmpStats.{ReadAmpStats}
 use Rattle.pressure.specs.Sample.{fractionOf}
 use Rattle.pressure.specs.Smoothing.{smoothedOf}
 use Rattle.kinds.specs.Tuning.{Tuning}

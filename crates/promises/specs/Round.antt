@@ -30,8 +30,9 @@ use Rattle.decisions.specs.declared.SchedulingDecision.{SchedulingDecision}
 use Rattle.decisions.specs.Decision.{decisionWidth, decisionWords, isDecision}
 use Rattle.trace.specs.Trace.{decisionOf}
 use Rattle.log.specs.declared.DecisionLog.{DecisionLog}
-use Rattle.log.specs.declared.Recorded.{Recorded}
-use Rattle.log.specs.Log.{maxKept, logBad, nextSequence, numbered, recordedOf, recordedWords, keptWords}
+use Rattle.log.specs.Log.{maxKept, logBad, keptWords}
+use Rattle.recording.specs.declared.Recorded.{Recorded}
+use Rattle.recording.specs.Recording.{nextSequence, numbered, recordedOf, recordedWords}
 use Rattle.promises.specs.Rows.{estimating}
 
 -- what goes in: the state, what is lent to generation, the next file number, the rooms of the three buffers, the log and its words

@@ -1,6 +1,5 @@
 -- The kept decisions read back: what is refused, and the words written to a buffer. Definitions only.
 pub mod Sound
-pub mod Last
 use Prim.Native.Nat.{ℕ, _*_}
 use mathlib.Core.Bool.{cond}
 use mathlib.Core.List.{List, [], _∷_, _++_}

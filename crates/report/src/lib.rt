@@ -72,22 +72,3 @@ pub fn with_outcome(mut s: GovernorState, predicted: u64, actual: u64) -> Observ
     }
     Observed { refusal, state: s }
 }
-
-// The same two behind a lent governor, which a refusal leaves as it was: they answer the refusal.
-pub fn record_trivial_move(g: &mut GovernorState, bytes_avoided: u64) -> u64
-    ensures { λ r. ⌜ (now (g .exit) ≡ trivialMoveOf (now (g .entry)) «bytes_avoided» .state) × (r ≡ trivialMoveOf (now (g .entry)) «bytes_avoided» .refusal) ⌝ }
-{
-    let s = *g;
-    let o = with_trivial_move(s, bytes_avoided);
-    *g = o.state;
-    o.refusal
-}
-
-pub fn record_outcome(g: &mut GovernorState, predicted: u64, actual: u64) -> u64
-    ensures { λ r. ⌜ (now (g .exit) ≡ outcomeOf (now (g .entry)) predicted actual .state) × (r ≡ outcomeOf (now (g .entry)) predicted actual .refusal) ⌝ }
-{
-    let s = *g;
-    let o = with_outcome(s, predicted, actual);
-    *g = o.state;
-    o.refusal
-}

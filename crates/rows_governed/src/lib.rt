@@ -1,9 +1,7 @@
-// The calls of kinds, state, pressure, governor, engine, report and snapshot.
-mod lent;
+// The calls of kinds, state, pressure, governor, engine, report, lent and snapshot.
+mod lending;
 
 use arith::floats;
-use engine::EngineSample;
-use engine::ReadAmpStats;
 use kinds::kind::CandidateKind;
 use pressure::PressureSample;
 use pressure::pacing;
@@ -14,6 +12,8 @@ use rows_words::words::WORDS;
 use snapshot::SnapshotAnswer;
 use state::GovernorState;
 use state::Observed;
+use windows::EngineSample;
+use windows::ReadAmpStats;
 
 fn kind_of(kind: u64, level: u32, batch_len: u64) -> CandidateKind {
     match kind {
@@ -59,8 +59,8 @@ fn observed(call: u64, s: GovernorState, args: &[u64; WORDS]) -> Observed {
         40 => engine::observe_engine(s, args[28], engine_sample(args), read_amp(args)),
         41 => report::with_trivial_move(s, args[28]),
         42 => report::with_outcome(s, args[28], args[29]),
-        43 => lent::moved(s, args[28]),
-        _ => lent::outcome(s, args[28], args[29]),
+        43 => lending::moved(s, args[28]),
+        _ => lending::outcome(s, args[28], args[29]),
     }
 }
 

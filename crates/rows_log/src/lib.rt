@@ -1,7 +1,7 @@
 // The calls of decisions and of their log, whose words come from a seed.
 use decisions::DecisionRead;
 use log::DecisionLog;
-use log::Recorded;
+use recording::Recorded;
 use rows_words::words;
 use rows_words::words::WORDS;
 
@@ -36,7 +36,7 @@ fn put_anew(list: &[u64], out: &mut [u64; WORDS], at: usize) {
 
 fn recorded(log: DecisionLog, words: &mut [u64], list: &[u64]) -> Recorded {
     match decisions::of_words(list) {
-        DecisionRead::Decision(d) => log::record_decision(log, words, d),
+        DecisionRead::Decision(d) => recording::record_decision(log, words, d),
         DecisionRead::None => Recorded { refusal: 0, log },
     }
 }

@@ -10,7 +10,6 @@ use rows_state::states;
 use rows_state::states::float;
 use rows_words::words;
 use rows_words::words::WORDS;
-use scores::score;
 
 // ---- estimates
 
@@ -120,7 +119,7 @@ pub fn put_answer(call: u64, args: &[u64; WORDS], out: &mut [u64; WORDS]) {
         46 => put_estimates(args, out),
         47 => {
             let vector = states::vector_at(args, 0);
-            out[0] = floats::to_bits(score::cause_aware_score(vector, estimate_at(args)));
+            out[0] = floats::to_bits(scores::cause_aware_score(vector, estimate_at(args)));
         }
         48 => put_picked(args, out),
         _ => put_decision(args, out),

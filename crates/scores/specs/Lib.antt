@@ -1,4 +1,2 @@
--- The score of an estimate, the candidates with their scores, and the search for the best of them.
+-- The score of an estimate.
 pub mod Score
-pub mod Choices
-pub mod Search

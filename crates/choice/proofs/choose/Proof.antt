@@ -1,7 +1,7 @@
 -- `choice::choose` meets its contract.
 use Rattle.choice.specs.Choice.Tiers.{first-at, first-none}
-use Rattle.scores.specs.Search.Reading.{l0-is, read-is}
-use Rattle.scores.specs.Choices.{choicesFrom, isL0Choice}
+use Rattle.search.specs.Search.Reading.{l0-is, read-is}
+use Rattle.search.specs.Choices.{choicesFrom, isL0Choice}
 use Rattle.choice.specs.Choice.{choiceOf, focused}
 use Rattle.candidate_records.specs.Candidates.{candidatesOf, estimatesOf}
 use Rattle.lists.specs.Filter.{filterOf}

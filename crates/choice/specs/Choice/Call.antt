@@ -13,7 +13,7 @@ use Rattle.kinds.specs.declared.winner.Winner.the-variants.{None as NoWinner}
 use Rattle.choice.specs.declared.Picked.{Picked}
 use Rattle.candidate_records.specs.Candidates.{candidatesOf, estimatesOf}
 use Rattle.candidate_faults.specs.Candidates.{tooManyCandidates, brokenCandidates, inUnit, estimateOut}
-use Rattle.scores.specs.Choices.{choicesFrom}
+use Rattle.search.specs.Choices.{choicesFrom}
 use Rattle.choice.specs.Choice.{choiceOf}
 
 -- the records are no candidates, or the two lists are no pairs

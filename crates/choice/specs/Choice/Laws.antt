@@ -20,19 +20,19 @@ use Rattle.candidate_records.specs.Candidates.{candidatesOf, estimatesOf}
 use Rattle.candidate_faults.specs.Candidates.{inUnit, estimateOut}
 use Rattle.scores.specs.Score.{scoreOf}
 use Rattle.lists.specs.Filter.{filterOf, filter-in}
-use Rattle.scores.specs.Choices.{Choice, choicesFrom, isL0Choice, winnerOf}
+use Rattle.search.specs.Choices.{Choice, choicesFrom, isL0Choice, winnerOf}
 use Rattle.choice.specs.Choice.{noFocus, answerOf, focused, firstOr, choiceOf}
 use Rattle.choice.specs.Choice.Call.{pickChecks, pickFault, pickedOf}
 use Rattle.refusals.specs.Checks.{none-found}
 use Rattle.lists.specs.Any.{any-no}
 use Rattle.lists.specs.Tests.{neither}
-use Rattle.scores.specs.Search.{firstL0}
-use Rattle.scores.specs.Search.Reading.{choiceAt, l0-is}
+use Rattle.search.specs.Search.{firstL0}
+use Rattle.search.specs.Search.Reading.{choiceAt, l0-is}
 use Rattle.choice.specs.Choice.Accepted.{pickable}
 use Rattle.choice.specs.Choice.Tiers.{first-at, first-none}
 use Rattle.arith.specs.Floats.Range.{Plain}
 use Rattle.scores.specs.Score.Range.{InRange, score-plain}
-use Rattle.scores.specs.Choices.LastBest.{Each}
+use Rattle.search.specs.Choices.LastBest.{Each}
 use Rattle.choice.specs.Choice.Won.{Number, Won, WonAt, comparedBy, focused-at}
 
 -- ---- what an accepted call has

@@ -11,7 +11,7 @@ use Rattle.kinds.specs.declared.focus.FocusState.{FocusState}
 use Rattle.kinds.specs.declared.focus.FocusLevel.{FocusLevel}
 use Rattle.kinds.specs.declared.focus.FocusLevel.the-variants.{None as Nothing, Level}
 use Rattle.candidate_records.specs.Candidates.{candidatesOf, estimatesOf}
-use Rattle.scores.specs.Choices.{Choice, lastBest, lowerScore, isL0Choice, choicesFrom}
+use Rattle.search.specs.Choices.{Choice, lastBest, lowerScore, isL0Choice, choicesFrom}
 use Rattle.choice.specs.declared.Picked.{Picked}
 use Rattle.choice.specs.Choice.{bestWithin, reselectedBy, continuedBy, continued, reselected, focusMaxJobs, focused, firstOr, choiceOf}
 use Rattle.choice.specs.Choice.Call.{pickFault, pickedOf}

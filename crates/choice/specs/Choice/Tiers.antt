@@ -9,10 +9,10 @@ use Rattle.kinds.specs.declared.tier.SelectionTier.the-variants.{None as NoTier
 use Rattle.choice.specs.declared.Picked.{Picked}
 use Rattle.kinds.specs.declared.winner.Winner.{Winner}
 use Rattle.kinds.specs.declared.winner.Winner.the-variants.{None as NoWinner, At}
-use Rattle.scores.specs.declared.search.Search.the-variants.{OfLevel, Batches}
-use Rattle.scores.specs.Choices.{Choice, saturated, winnerOf}
+use Rattle.search.specs.declared.Search.the-variants.{OfLevel, Batches}
+use Rattle.search.specs.Choices.{Choice, saturated, winnerOf}
 use Rattle.choice.specs.Choice.{yields, bestWithin, noFocus, focusOn, answerOf, reselectedBy, reselected, topLevel, continuedBy, firstOr}
-use Rattle.scores.specs.Search.{readChoice, bestOf, heldIn}
+use Rattle.search.specs.Search.{readChoice, bestOf, heldIn}
 
 -- ---- the best of a level
 

@@ -20,9 +20,9 @@ use Rattle.kinds.specs.declared.winner.Winner.the-variants.{None as NoWinner, A
 use Rattle.candidate_records.specs.declared.Candidate.{Candidate}
 use Rattle.candidate_records.specs.declared.CandidateEstimate.{CandidateEstimate}
 use Rattle.candidate_records.specs.Candidates.{candidatesOf, estimatesOf, candidateAt}
-use Rattle.scores.specs.Choices.{Choice, choicesFrom, lastBest, lowerScore, shorter, isL0Choice, onLevel, saturated, winnerOf}
-use Rattle.scores.specs.Choices.LastBest.{best-some}
-use Rattle.scores.specs.Search.Reading.{choiceAt, noChoice, choices-length, choices-at}
+use Rattle.search.specs.Choices.{Choice, choicesFrom, lastBest, lowerScore, shorter, isL0Choice, onLevel, saturated, winnerOf}
+use Rattle.search.specs.Choices.LastBest.{best-some}
+use Rattle.search.specs.Search.Reading.{choiceAt, noChoice, choices-length, choices-at}
 use Rattle.choice.specs.declared.Picked.{Picked}
 use Rattle.choice.specs.Choice.{yields, bestWithin, noFocus, focusOn, answerOf, reselectedBy, reselected, continuedBy, continued, focusMaxJobs, focused, firstOr, choiceOf}
 use Rattle.choice.specs.Choice.Call.{pickFault, pickedOf}

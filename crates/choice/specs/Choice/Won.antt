@@ -15,9 +15,9 @@ use Rattle.kinds.specs.declared.tier.SelectionTier.{SelectionTier}
 use Rattle.kinds.specs.declared.tier.SelectionTier.the-variants.{None as NoTier, L0, FocusContinued, FocusReselected}
 use Rattle.kinds.specs.declared.winner.Winner.the-variants.{None as NoWinner, At}
 use Rattle.lists.specs.Filter.{filterOf, filter-in}
-use Rattle.scores.specs.Choices.{Choice, lastBest, lowerScore, shorter, saturated, onLevel, winnerOf}
+use Rattle.search.specs.Choices.{Choice, lastBest, lowerScore, shorter, saturated, onLevel, winnerOf}
 use Rattle.choice.specs.Choice.{yields, bestWithin, focusMaxJobs, reselectedBy, reselected, continuedBy, continued, focused}
-use Rattle.scores.specs.Choices.LastBest.{Each, LastBest, best-in, only-best, filter-best, Orders, last-best, none-above}
+use Rattle.search.specs.Choices.LastBest.{Each, LastBest, best-in, only-best, filter-best, Orders, last-best, none-above}
 
 -- ---- the two orders
 

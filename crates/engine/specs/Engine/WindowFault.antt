@@ -1,35 +1,24 @@
--- What refuses an observation of the engine before its sample is known; where nothing does, `observe` of the sample answers, and the new window is kept.
+-- An observation of the engine that nothing refuses before its sample is known: `observe` of the sample answers, and the new window is kept.
 -- Assumes nothing.
 use mathlib.Core.Path.{_≡_, refl}
 use mathlib.Core.Bool.{Bool, true, false, cond, not, _||_}
-use mathlib.Core.List.{List, [], _∷_}
+use mathlib.Core.List.{[], _∷_}
 use Prim.Native.Nat.{ℕ, _-_, _^_, _≤_}
 use lib.Dec.{ltb, eqb}
 use borrow.Author.Tests.{ltb-false, ne-eqb}
 use Rattle.counts.specs.Counts.{anyLarge}
-use Rattle.refusals.specs.Refusals.{Check, _gives_, firstFault, none, badState, tooLarge, counterFull}
+use Rattle.refusals.specs.Refusals.{_gives_, firstFault, none, badState, tooLarge, counterFull}
 use Rattle.refusals.specs.Checks.{none-found}
 use Rattle.kinds.specs.Tuning.{Tuning}
 use Rattle.modes.specs.Mode.{soundOf}
-use Rattle.kinds.specs.declared.mode.GovernorMode.{GovernorMode}
-use Rattle.state.specs.declared.Streaks.{Streaks}
 use Rattle.state.specs.declared.Window.{Window}
 use Rattle.state.specs.declared.GovernorState.{GovernorState}
 use Rattle.state.specs.declared.Observed.{Observed}
 use Rattle.governor.specs.Observe.{countersFull, observeFault, acceptedOf, observedOf}
-use Rattle.engine.specs.declared.EngineSample.{EngineSample}
-use Rattle.engine.specs.declared.ReadAmpStats.{ReadAmpStats}
-use Rattle.engine.specs.Engine.{probedSum, deltasLarge, sampleOf, windowOf, engineFault, engineOf}
-
-abbrev pub windowChecks : Tuning → GovernorMode → Streaks → Window → EngineSample → ReadAmpStats → List Check
-windowChecks G m k w e a =
-    not (soundOf G m k) gives badState
-    ∷ (anyLarge (e .«l0_count») (e .«l0_write_stall_trigger») (e .«backlog_levels») || deltasLarge w a) gives tooLarge
-    ∷ ltb (2 ^ 64 - 1) (probedSum a) gives counterFull
-    ∷ []
-
-unfoldable pub windowFault : Tuning → GovernorMode → Streaks → Window → EngineSample → ReadAmpStats → ℕ
-windowFault G m k w e a = firstFault (windowChecks G m k w e a)
+use Rattle.windows.specs.declared.EngineSample.{EngineSample}
+use Rattle.windows.specs.declared.ReadAmpStats.{ReadAmpStats}
+use Rattle.windows.specs.Windows.{probedSum, deltasLarge, windowChecks, windowFault}
+use Rattle.engine.specs.Engine.{sampleOf, windowOf, engineFault, engineOf}
 
 abbrev inOrder : Bool → Bool → Bool → ℕ
 inOrder bad large full = firstFault (bad gives badState ∷ large gives tooLarge ∷ full gives counterFull ∷ [])

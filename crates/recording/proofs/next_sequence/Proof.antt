@@ -1,0 +1,16 @@
+-- `recording::next_sequence` meets its contract.
+use native.Mathlib.Omega.{arith}
+use Rattle.recording.proofs.next_sequence.Statement.{statement}
+use Rattle.recording.proofs.next_sequence.Tie as tie
+
+add-result : tie.Need-add-result
+add-result c = omega arith
+
+returns : tie.Need-returns
+returns c = omega arith
+
+returns-2 : tie.Need-returns-2
+returns-2 c = omega arith
+
+pub next-sequence-spec : {M : Type 1} → statement M
+next-sequence-spec = tie.close (tie.spec add-result returns returns-2)

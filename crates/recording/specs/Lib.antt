@@ -1,0 +1,2 @@
+-- A decision added to the log.
+pub mod Recording

@@ -1,0 +1,49 @@
+-- `search::scores_below` meets its contract.
+use mathlib.Core.Path.{_≡_, refl}
+use mathlib.Core.Bool.{false}
+use lib.Ieee.{Float, nan, inf, fin, lt}
+use lib.ListN.{List·getD-eq-default}
+use native.Mathlib.Omega.{arith}
+use borrow.Author.Needs.{needs}
+use Rattle.search.proofs.scores_below.Statement.{statement}
+use Rattle.search.proofs.scores_below.Tie as tie
+
+below-none : (x : Float) → false ≡ lt x nan
+unfolding lt
+below-none nan = refl
+below-none (inf s) = refl
+below-none (fin s m e) = refl
+
+mul-result : tie.Need-mul-result
+mul-result c = search needs
+
+array-read-result : tie.Need-array-read-result
+array-read-result c = search needs
+
+mul-result-2 : tie.Need-mul-result-2
+mul-result-2 c = search needs
+
+array-read-result-2 : tie.Need-array-read-result-2
+array-read-result-2 c = search needs
+
+returns : tie.Need-returns
+returns c = refl
+
+returns-2 : tie.Need-returns-2
+returns-2 c = let a = c .before .before .args in rw (List·getD-eq-default (a .t1) nan {n = a .best} (omega arith)) (below-none _)
+
+returns-3 : tie.Need-returns-3
+unfolding lt
+returns-3 c = let a = c .before .args in rw (List·getD-eq-default (a .t1) nan {n = a .here} (omega arith))
+
+pub scores-below-spec : {M : Type 1} → statement M
+scores-below-spec =
+    tie.close
+    (tie.spec
+    mul-result
+    array-read-result
+    mul-result-2
+    array-read-result-2
+    returns
+    returns-2
+    returns-3)

@@ -1,0 +1,3 @@
+-- The candidates with their scores, and the search for the best of them.
+pub mod Choices
+pub mod Search

@@ -1,0 +1,2 @@
+-- The window over the read counters, and what refuses it.
+pub mod Windows
