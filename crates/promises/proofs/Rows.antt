@@ -22,7 +22,8 @@ use Rattle.records.specs.Tables.{tablesOf, entriesOf, firstKey, lastKey}
 use Rattle.candidate_records.specs.Candidates.{candidatesOf, estimatesOf}
 use Rattle.faults.specs.Tables.{brokenTables, brokenKeys, levelsOut}
 use Rattle.candidate_faults.specs.Candidates.{fitsKind, inUnit, estimateOut}
-use Rattle.levels.specs.Levels.{byKey, overlaps}
+use Rattle.levels.specs.Levels.{byKey}
+use Rattle.overlaps.specs.Overlaps.{overlaps}
 use Rattle.offers.specs.Offers.{endFrom, endOf, seedFrom, seedOf}
 use Rattle.trivial_moves.specs.Moves.{isFree, moveBefore, movesOf}
 use Rattle.writers.specs.Writers.{mergedOf}

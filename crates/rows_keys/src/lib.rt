@@ -18,7 +18,7 @@ fn overlap(args: &[u64; WORDS], second: usize, bytes: &[u8]) -> bool
     let low = end_of(args, second, 0);
     let high = end_of(args, place + 1, low);
     let end = end_of(args, words::after(args, place + 1, 1), high);
-    levels::overlaps_at(
+    overlaps::overlaps_at(
         words::part(args, 0),
         words::cut(bytes, 0, low),
         words::word(args, place) as usize,

@@ -1,4 +1,4 @@
-// The calls of records, faults and levels, and the door to those of rows_keys.
+// The calls of records, faults, levels and places, and the door to those of rows_keys.
 mod placed;
 
 use records::tables;

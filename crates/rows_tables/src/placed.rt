@@ -45,7 +45,7 @@ fn ordered(call: u64, args: &[u64; WORDS], bytes: &[u8], at: usize, places: &mut
         );
         return levels::sort_level(tables, keys, n, places);
     }
-    levels::insert_at(
+    places::insert_at(
         places,
         n as usize,
         words::word(args, at + 1) as usize,

@@ -3,7 +3,7 @@ use Prim.Native.Nat.{ℕ}
 use mathlib.Core.List.{List, _++_, map}
 use Rattle.records.specs.declared.tables.Table.{Table}
 use Rattle.records.specs.Tables.{tableAt}
-use Rattle.levels.specs.Levels.{overlappingOf}
+use Rattle.overlaps.specs.Overlaps.{overlappingOf}
 use Rattle.offers.specs.Offers.{lowOf, highOf}
 
 abbrev pub numbersOf : List Table → List ℕ → List ℕ

@@ -3,7 +3,7 @@ ghost use mathlib.Core.Path.{_≡_};
 ghost use Prim.Native.Nat.{_+_, _<_, _^_};
 ghost use lib.ListN.{length};
 ghost use Rattle.records.specs.Tables.{tablesOf};
-ghost use Rattle.levels.specs.Levels.{overlappingOf};
+ghost use Rattle.overlaps.specs.Overlaps.{overlappingOf};
 ghost use Rattle.lists.specs.Writes.{Filled};
 ghost use Rattle.offers.specs.Offers.{heldIn};
 ghost use Rattle.writers.specs.Writers.{numbersOf, mergedIn, mergedOf};
@@ -104,7 +104,7 @@ fn put_overlapping(
     while i < next.len() {
         let place = next[i];
         i += 1;
-        if levels::overlaps_at(tables, keys, place, lo, hi) {
+        if overlaps::overlaps_at(tables, keys, place, lo, hi) {
             buffers::put(&mut *out, at + n, number_at(tables, place));
             n += 1;
         }

@@ -9,7 +9,7 @@ use borrow.Author.Needs.{needs}
 use Rattle.writers.specs.Writers.{numbersOf}
 use Rattle.lists.specs.Writes.{Filling, fill-start, fill-put, fill-end}
 use Rattle.lists.specs.Filter.{filter-keep, filter-skip, filter-end}
-use Rattle.levels.specs.Levels.{meets, overlappingOf}
+use Rattle.overlaps.specs.Overlaps.{meets, overlappingOf}
 use Rattle.records.specs.Tables.{tablesOf}
 use Rattle.writers.proofs.put_overlapping.Statement.{statement}
 use Rattle.writers.proofs.put_overlapping.Tie as tie

@@ -1,0 +1,2 @@
+-- Which tables meet a range of keys.
+pub mod Overlaps
