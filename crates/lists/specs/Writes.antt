@@ -1,10 +1,13 @@
 -- Words written to a lent buffer from a place on; those that would stand past its end are lost.
 use mathlib.Core.Path.{_≡_, refl, sym, _∙_, ap}
+use mathlib.Core.Bool.{Bool, true, false}
 use mathlib.Core.List.{List, [], _∷_, _++_}
-use Prim.Native.Nat.{ℕ, suc, _+_, _≤_, _<_}
+use Prim.Native.Nat.{ℕ, suc, _+_, _≤_, _<_, min}
 use native.Mathlib.Numerals.{add-one}
 use native.Mathlib.Nat.{zero-add, add-zero, add-suc, suc-add}
 use native.Mathlib.Omega.{arith}
+use lib.Dec.{ltb}
+use borrow.Author.Tests.{ltb-true, ltb-false}
 use lib.ListN.{length, take, drop, getD, set, length-append, length-set, drop-of-length-le}
 use lib.Seq.{drop-cons, sets, sets-eq, set-out, length-sets, take-at}
 
@@ -54,6 +57,26 @@ filled-append old at a mid m b new end f g =
       ends = omega (arith, f .ends, g .ends, length-append a b);
       stands = g .stands ∙ rw (f .stands, f .ends) (sets-append a b old at);
     }
+
+-- one word more
+pub filled-put : (old : List ℕ) (at : ℕ) (ws mid new : List ℕ) (n v : ℕ) → Filled old at ws mid (at + n) → new ≡ set mid (at + n) v → Filled old at (ws ++ (v ∷ [])) new (at + (n + 1))
+filled-put old at ws mid new n v f e =
+    record {
+      ends = omega (arith, f .ends, length-append ws (v ∷ []));
+      stands = e ∙ rw (f .stands, f .ends) (sets-snoc ws v old at);
+    }
+
+-- past the end every place is as good as the end
+pub filled-clip : (old : List ℕ) (at from : ℕ) (ws new : List ℕ) (n : ℕ) → from ≡ min at (length old) → Filled old from ws new (from + n) → Filled old at ws new (at + n)
+filled-clip old at from ws new n e f =
+    record { ends = omega (arith, f .ends); stands = f .stands ∙ clip (ltb at (length old)) refl }
+  where
+    clip : (b : Bool) → ltb at (length old) ≡ b → sets old from ws ≡ sets old at ws
+    clip true t =
+        let k : from ≡ at = omega (arith, ltb-true at (length old) t) in
+        rw k
+    clip false t =
+        sets-past ws old from (omega (arith, ltb-false at (length old) t)) ∙ sym (sets-past ws old at (ltb-false at (length old) t))
 
 -- `whole` is being written to `old` from `at` on: `out` is what stands now, `rest` what is left, and the next word goes to n
 pub record Filling (old : List ℕ) (at : ℕ) (whole out : List ℕ) (n : ℕ) (rest : List ℕ) : Type 0 where

@@ -5,9 +5,9 @@ use mathlib.Core.List.{List, []}
 use lib.ListN.{length, getD}
 use lib.Dec.{eqb}
 use lib.Ieee.{binary64, ofBits}
-use Rattle.replay_text.specs.declared.numbers.Number.{Number}
-use Rattle.replay_text.specs.declared.numbers.Number.the-variants.{Value, None as NoNumber}
-use Rattle.replay_text.specs.Numbers.{decimalOf, bitsOf}
+use Rattle.numerals.specs.declared.Number.{Number}
+use Rattle.numerals.specs.declared.Number.the-variants.{Value, None as NoNumber}
+use Rattle.numerals.specs.Numbers.{decimalOf, bitsOf}
 use Rattle.replay_fields.specs.declared.Line.{Line}
 use Rattle.replay_fields.specs.declared.Line.the-variants.{Observation, None as NoLine}
 

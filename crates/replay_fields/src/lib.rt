@@ -4,12 +4,12 @@ ghost use Prim.Native.Nat.{_-_, _≤_};
 ghost use lib.ListN.{length, take, drop};
 ghost use Rattle.replay_text.specs.Lines.{fieldsOf};
 ghost use Rattle.replay_text.specs.Lines.Fields.{Commas};
-ghost use Rattle.replay_text.specs.Numbers.{decimalOf, bitsOf};
+ghost use Rattle.numerals.specs.Numbers.{decimalOf, bitsOf};
 ghost use Rattle.replay_fields.specs.Fields.{observation, lineOf};
+use numerals::Number;
+use numerals::bits;
+use numerals::decimal;
 use pressure::PressureSample;
-use replay_text::numbers::Number;
-use replay_text::numbers::bits;
-use replay_text::numbers::decimal;
 use replay_text::reader::find;
 
 pub const COMMA: u8 = 44;

@@ -20,7 +20,7 @@ use Rattle.replay_fields.specs.declared.Line.{Line}
 use Rattle.replay_fields.specs.declared.Line.the-variants.{Observation, None as NoLine}
 use Rattle.replay_lines.specs.declared.run.Replayed.{Replayed}
 use Rattle.replay_text.specs.Lines.{LF, comma, linesOf, fieldsOf}
-use Rattle.replay_text.specs.Numbers.{spelt}
+use Rattle.numerals.specs.Numbers.{spelt}
 use Rattle.replay_fields.specs.Fields.{lineOf}
 
 -- any other line counts as refusal 5, and leaves the state as it was

@@ -1,4 +1,3 @@
 // The lines of `replay`, and the whole run over lent slices.
 pub mod lines;
 pub mod run;
-mod writing;

@@ -1,17 +1,19 @@
 // The whole run: a governor fresh at clock 0, and a line written for each line read.
 ghost use mathlib.Core.Path.{_≡_};
-ghost use Prim.Native.Nat.{_+_, _≤_, _<_, _^_};
+ghost use Prim.Native.Nat.{_+_, _≤_};
 ghost use lib.ListN.{length, replicate};
 ghost use Rattle.lists.specs.Writes.{Filled};
 ghost use Rattle.state.specs.State.{freshOf};
 ghost use Rattle.replay_text.specs.Lines.{linesOf};
 ghost use Rattle.replay_lines.specs.Replay.{printed, replayFrom, replayedOf, replayOut, Counts};
 use crate::lines::observe_line;
-use crate::writing::put_five;
+use replay_fields::COMMA;
 use replay_fields::line_of;
+use replay_text::reader::LF;
 use replay_text::reader::LineAt;
 use replay_text::reader::next_line;
 use state::Observed;
+use text_writers::put_row;
 
 // The most bytes that are read; given more, nothing is printed.
 pub const MOST: usize = 65536;
@@ -36,25 +38,16 @@ pub fn output_room() -> [u8; 1179648]
     [0; 1179648]
 }
 
-// Line number, refusal, mode, dominant, delay.
+// Line number, refusal, mode, dominant, delay; how many bytes they take.
 fn put_line(out: &mut [u8], at: usize, number: u64, o: Observed) -> usize
-    requires { ⌜ at + 106 < 2 ^ 64 ⌝ }
-    ensures { λ r. ⌜ Filled (now (out .entry)) at (printed number o) (now (out .exit)) r ⌝ }
-    ensures { λ r. ⌜ r ≤ at + 105 ⌝ }
+    ensures { λ r. ⌜ Filled (now (out .entry)) at (printed number o) (now (out .exit)) (at + r) ⌝ }
 {
     let s = o.state;
     let mode = s.mode();
     let dominant = s.pressure_vector().dominant();
     let delay = pressure::pacing::pacing_delay(mode, s.pressure());
-    put_five(
-        out,
-        at,
-        number,
-        o.refusal,
-        mode.idx(),
-        dominant.number(),
-        delay,
-    )
+    let numbers = [number, o.refusal, mode.idx(), dominant.number(), delay];
+    put_row(out, at, &numbers, COMMA, LF)
 }
 
 // Writes the whole output as far as the buffer goes, and answers its length.
@@ -72,7 +65,7 @@ fn run(text: &[u8], out: &mut [u8]) -> usize
             return at;
         };
         let o = observe_line(state, line_of(&text[start..end]));
-        at = put_line(out, at, number, o);
+        at += put_line(out, at, number, o);
         let after = o.state;
         state = after;
         number += 1;

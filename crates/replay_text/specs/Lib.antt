@@ -1,3 +1,2 @@
--- The text of `replay`: its lines, its fields and their numbers.
+-- The text of `replay`: its lines and their fields.
 pub mod Lines
-pub mod Numbers

@@ -1,3 +1,2 @@
-// The text of `replay`: its lines and numbers.
-pub mod numbers;
+// The text of `replay`: its lines.
 pub mod reader;

@@ -1,7 +1,6 @@
 // The calls of the replay's text.
+use numerals::Number;
 use replay_lines::run;
-use replay_text::numbers;
-use replay_text::numbers::Number;
 use rows_words::words;
 use rows_words::words::BYTES;
 use rows_words::words::WORDS;
@@ -76,8 +75,8 @@ pub fn put_answer(call: u64, args: &[u64; WORDS], bytes: &[u8], out: &mut [u64; 
     let second = words::after(args, 0, 1);
     let mut room = [0u8; BYTES];
     match call {
-        56 => put_number(numbers::decimal(text), out),
-        57 => put_number(numbers::bits(text), out),
+        56 => put_number(numerals::decimal(text), out),
+        57 => put_number(numerals::bits(text), out),
         58 => put_replay(text, words::part(args, second), &mut room, out),
         _ => put_filled(text, words::word(args, second) as usize, &mut room, out),
     }

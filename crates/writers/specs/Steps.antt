@@ -1,19 +1,15 @@
--- The numbers from a place on, how many there are, and a start past the buffer's end.
-use mathlib.Core.Path.{_≡_, refl, sym, _∙_}
-use mathlib.Core.Bool.{Bool, true, false}
+-- The numbers from a place on, and how many there are.
+use mathlib.Core.Path.{_≡_}
 use mathlib.Core.List.{List, _∷_}
-use Prim.Native.Nat.{ℕ, _+_, _≤_, _<_, min}
+use Prim.Native.Nat.{ℕ, _+_, _≤_, _<_}
 use native.Mathlib.Numerals.{add-one}
 use native.Mathlib.Omega.{arith}
-use lib.Dec.{ltb}
-use borrow.Author.Tests.{ltb-true, ltb-false}
 use lib.ListN.{length, drop, getD, length-append, length-map}
-use lib.Seq.{drop-cons, sets}
+use lib.Seq.{drop-cons}
 use Rattle.records.specs.declared.tables.Table.{Table}
 use Rattle.records.specs.Tables.{tableAt}
 use Rattle.lists.specs.Filter.{filterOf, filter-small}
-use Rattle.lists.specs.Writes.{Filled, sets-past}
-use Rattle.overlaps.specs.Overlaps.{meets}
+use Rattle.levels.specs.Levels.{meets}
 use Rattle.offers.specs.Offers.{lowOf, highOf}
 use Rattle.writers.specs.Writers.{numbersOf, mergedOf}
 
@@ -28,15 +24,3 @@ unfolding mergedOf
 merged-small ks ts next ps =
     let met : List ℕ = filterOf (meets ks ts (lowOf ks ts ps) (highOf ks ts ps)) next in
     omega (arith, length-append (numbersOf ts ps) (numbersOf ts met), numbers-length ts ps, numbers-length ts met, filter-small (meets ks ts (lowOf ks ts ps) (highOf ks ts ps)) next)
-
--- past the end every place is as good as the end
-pub filled-clip : (old : List ℕ) (at from : ℕ) (ws new : List ℕ) (n : ℕ) → from ≡ min at (length old) → Filled old from ws new (from + n) → Filled old at ws new (at + n)
-filled-clip old at from ws new n e f =
-    record { ends = omega (arith, f .ends); stands = f .stands ∙ clip (ltb at (length old)) refl }
-  where
-    clip : (b : Bool) → ltb at (length old) ≡ b → sets old from ws ≡ sets old at ws
-    clip true t =
-        let k : from ≡ at = omega (arith, ltb-true at (length old) t) in
-        rw k
-    clip false t =
-        sets-past ws old from (omega (arith, ltb-false at (length old) t)) ∙ sym (sets-past ws old at (ltb-false at (length old) t))

@@ -28,7 +28,7 @@ use Rattle.replay_fields.specs.declared.Line.{Line}
 use Rattle.replay_fields.specs.declared.Line.the-variants.{Observation, None as NoLine}
 use Rattle.lists.specs.Tests.{by-test}
 use Rattle.replay_text.specs.Lines.{LF, partsFrom, withoutCR, lastLine, linesOf, fieldsOf}
-use Rattle.replay_text.specs.Numbers.{digitsUpTo}
+use Rattle.numerals.specs.Numbers.{digitsUpTo}
 use Rattle.replay_fields.specs.Fields.{lineOf}
 use Rattle.replay_lines.specs.Replay.{five, printed, observeLine, replayFrom, replayOf, replayedOf}
 
@@ -75,7 +75,7 @@ refusal-few s (Observation clock p) =
     fault-few (not (soundOf source (s .mode) (s .streaks))) (anyLarge (p .«l0_count») (p .«l0_write_stall_trigger») (p .«backlog_levels»)) (countersFull source s clock p)
 refusal-few s NoLine = omega arith
 
-printed-few : (n : ℕ) (s : GovernorState) (l : Line) → n < 100000 → length (printed n (observeLine s l)) ≤ 18
+pub printed-few : (n : ℕ) (s : GovernorState) (l : Line) → n < 100000 → length (printed n (observeLine s l)) ≤ 18
 printed-few n s l h =
     let t = observeLine s l .state in
     five-few n _ _ _ _ h (refusal-few s l) (mode-few (t .mode)) (dominant-few (dominantOf (t .signals .«pressure_vector»))) (delay-few (t .mode) (t .signals .«last_pressure»))

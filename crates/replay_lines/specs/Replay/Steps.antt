@@ -4,7 +4,7 @@ use Prim.Native.Nat.{ℕ, _+_, _≤_, _<_}
 use native.Mathlib.Numerals.{add-one}
 use native.Mathlib.Omega.{arith}
 use mathlib.Core.Bool.{Bool, true, false, cond}
-use mathlib.Core.List.{List, [], _∷_, _++_}
+use mathlib.Core.List.{List, [], _∷_, _++_, append-assoc}
 use lib.ListN.{length, drop, length-append}
 use lib.Seq.{length-take-le}
 use lib.Dec.{ltb, eqb}
@@ -12,9 +12,15 @@ use borrow.Author.Tests.{lt-ltb, le-ltb}
 use Rattle.refusals.specs.Refusals.{none, noRoom}
 use Rattle.state.specs.State.{freshOf}
 use Rattle.state.specs.declared.GovernorState.{GovernorState}
-use Rattle.replay_text.specs.Lines.{linesOf, fieldsOf}
+use Rattle.replay_text.specs.Lines.{LF, comma, linesOf, fieldsOf}
+use Rattle.text_writers.specs.Rows.{rowOf}
 use Rattle.replay_fields.specs.Fields.{lineOf}
-use Rattle.replay_lines.specs.Replay.{observeLine, printed, replayFrom, replayOf, replayedOf, replayOut, Counts}
+use Rattle.replay_lines.specs.Replay.{observeLine, five, printed, replayFrom, replayOf, replayedOf, replayOut, Counts}
+
+-- five numbers as a row
+pub row-five : (a b c d e : ℕ) → rowOf comma LF (a ∷ b ∷ c ∷ d ∷ e ∷ []) ≡ five a b c d e
+unfolding rowOf
+row-five a b c d e = rw (append-assoc, append-assoc, append-assoc, append-assoc)
 
 module _ (s : GovernorState) (n : ℕ) (ls : List (List ℕ)) where
   pub replay-more : (l : List ℕ) (rest : List (List ℕ)) → ls ≡ l ∷ rest

@@ -5,10 +5,10 @@ use native.Mathlib.Omega.{arith}
 use lib.ListN.{length, drop, drop-of-length-le}
 use denote.Ref.{now}
 use borrow.Author.Needs.{needs}
-use Rattle.lists.specs.Writes.{Filling, fill-start, fill-put, fill-end}
+use Rattle.lists.specs.Writes.{filled-clip, Filling, fill-start, fill-put, fill-end}
 use Rattle.records.specs.Tables.{tablesOf}
 use Rattle.writers.specs.Writers.{numbersOf}
-use Rattle.writers.specs.Steps.{numbers-more, filled-clip}
+use Rattle.writers.specs.Steps.{numbers-more}
 use Rattle.writers.proofs.put_numbers.Statement.{statement}
 use Rattle.writers.proofs.put_numbers.Tie as tie
 

@@ -1,4 +1,5 @@
 -- `replay_lines::run::put_line` meets its contract.
+use Rattle.replay_lines.specs.Replay.Steps.{row-five}
 use borrow.Author.Needs.{needs}
 use Rattle.replay_lines.proofs.run.put_line.Statement.{statement}
 use Rattle.replay_lines.proofs.run.put_line.Tie as tie
@@ -22,10 +23,13 @@ idx-requires : tie.Need-idx-requires
 idx-requires c κs = tt
 
 number-requires : tie.Need-number-requires
-number-requires c κs = search needs
+number-requires c κs = tt
 
-put-five-requires : tie.Need-put-five-requires
-put-five-requires c κs = search needs
+slice-aggregate-put-row : tie.Need-slice-aggregate-put-row
+slice-aggregate-put-row c = search needs
+
+put-row-requires : tie.Need-put-row-requires
+put-row-requires c κs = tt
 
 same-length : tie.Need-same-length
 same-length c = search needs
@@ -33,21 +37,19 @@ same-length c = search needs
 returns : tie.Need-returns
 returns c =
     let f = c .before .before in
-    let i = f .before .before in
-    let y = i .before .before in
+    let n = f .before .before .before in
+    let y = n .before .before in
     let d = y .before .before in
-    let m = d .before .before in (
-      rw (
-        f .before .number .ensures,
-        i .idx .ensures,
-        y .pacing-delay .ensures,
-        y .before .pressure .ensures,
-        d .dominant .ensures,
-        d .before .pressure-vector .ensures,
-        m .mode .ensures,
-      ) at (f .put-five .ensures .0),
-      f .put-five .ensures .1,
-    )
+    rw (
+      row-five,
+      n .number .ensures,
+      n .before .idx .ensures,
+      y .pacing-delay .ensures,
+      y .before .pressure .ensures,
+      d .dominant .ensures,
+      d .before .pressure-vector .ensures,
+      d .before .before .mode .ensures,
+    ) at (f .put-row .ensures)
 
 pub put-line-spec : {M : Type 1} → statement M
 put-line-spec =
@@ -60,6 +62,7 @@ put-line-spec =
     pacing-delay-requires
     idx-requires
     number-requires
-    put-five-requires
+    slice-aggregate-put-row
+    put-row-requires
     same-length
     returns)

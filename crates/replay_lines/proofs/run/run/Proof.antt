@@ -1,4 +1,5 @@
 -- `replay_lines::run::run` meets its contract. The invariant: what is left to write is what the lines from `place` on print, and `place` bounds the line number and the bytes written.
+use Rattle.replay_lines.specs.Replay.Room.{printed-few}
 use Rattle.replay_lines.specs.Replay.Steps.{replay-more, replay-end}
 use Rattle.replay_text.specs.Lines.NextLine.{IsLine, line-at-says}
 use denote.Ref.{now}
@@ -17,7 +18,7 @@ abbrev Inv-loop : tie.InvT-loop
 Inv-loop text out₀ state₀ number₀ at₀ place₀ out state number at place =
     (place ≤ length text)
     × (number ≤ place + 1)
-    × (at ≤ 105 * place)
+    × (at ≤ 18 * place)
     × Filling out₀ 0 (replayFrom (freshOf 0) 1 (linesOf text)) out at (replayFrom state number (linesOf (drop place text)))
 
 abbrev μ-loop : tie.MeasureT-loop
@@ -29,6 +30,14 @@ here : (c : tie.After-found Inv-loop μ-loop)
 here c =
     let l = c .before .before .before in
     rw (← (c .before .before .next-line .ensures), c .found .given .1) at (line-at-says (now (l .before .before .before .before .args .text)) (l .loop .place))
+
+-- what it prints
+few : (c : tie.After-put-line Inv-loop μ-loop) → c .put-line .result ≤ 18
+few c =
+    let o = c .before .before in
+    let l = o .before .before .before .before .before .before .before in
+    let f = printed-few (l .loop .number) (l .loop .state) (o .before .line-of .result) (omega (arith, l .loop .inv, l .before .before .before .before .pre)) in
+    omega (arith, f, rw (o .observe-line .ensures) at (c .put-line .ensures .ends))
 
 fresh-requires : tie.Need-fresh-requires Inv-loop μ-loop
 fresh-requires c κs = tt
@@ -70,9 +79,13 @@ observe-line-requires : tie.Need-observe-line-requires Inv-loop μ-loop
 observe-line-requires c κs = tt
 
 put-line-requires : tie.Need-put-line-requires Inv-loop μ-loop
-put-line-requires c κs =
-    let l = c .before .before .before .before .before .before .before .before in
-    omega (arith, l .loop .inv, l .before .before .before .before .pre)
+put-line-requires c κs = tt
+
+add-at : tie.Need-add-at Inv-loop μ-loop
+add-at c =
+    let p = c .before .before in
+    let l = p .before .before .before .before .before .before .before .before .before in
+    omega (arith, few p, l .loop .inv, l .before .before .before .before .pre)
 
 add-number : tie.Need-add-number Inv-loop μ-loop
 add-number c =
@@ -94,8 +107,8 @@ loop-again c =
     let e = replay-more (l .state) (l .number) _ _ _ (h .lines) in (
       h .within,
       omega (arith, h .on, l .inv),
-      omega (arith, h .on, l .inv, p .put-line .ensures .1),
-      fill-part _ _ _ _ _ _ _ _ _ (rw (o .observe-line .ensures, o .before .line-of .ensures, ← e) (l .inv .3)) (p .put-line .ensures .0),
+      omega (arith, h .on, l .inv, few p),
+      fill-part _ _ _ _ _ _ _ _ _ (rw (o .observe-line .ensures, o .before .line-of .ensures, ← e) (l .inv .3)) (p .put-line .ensures),
     )
 
 pub run-spec : {M : Type 1} → statement M
@@ -117,6 +130,7 @@ run-spec =
     line-of-requires
     observe-line-requires
     put-line-requires
+    add-at
     add-number
     loop-less
     loop-again)

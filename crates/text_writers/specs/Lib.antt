@@ -1,0 +1,3 @@
+-- Text that is written, and the laws by which it is.
+pub mod Rows
+pub mod Steps
