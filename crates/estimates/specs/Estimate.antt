@@ -5,37 +5,27 @@ pub mod Tally
 pub mod Accepted
 pub mod Range
 pub mod ReadBack
-use Prim.Native.Nat.{ℕ, _+_, _-_, min, max}
+use Prim.Native.Nat.{ℕ, _+_, _-_, min}
 use mathlib.Core.Bool.{Bool, not, cond}
 use mathlib.Core.List.{List, [], _∷_, flatMap}
 use lib.ListN.{length, take, drop}
 use lib.Dec.{eqb}
-use lib.Ieee.{Float, binary64, div, toBits}
+use lib.Ieee.{binary64, toBits}
 use Rattle.lists.specs.Filter.{filterOf}
-use Rattle.arith.specs.Floats.{f0, f1, minimumOf}
-use Rattle.arith.specs.Whole.{floatOf}
+use Rattle.arith.specs.Floats.{f0, f1}
 use Rattle.records.specs.declared.tables.Table.{Table}
 use Rattle.records.specs.declared.tables.Entry.{Entry}
 use Rattle.candidate_records.specs.declared.Candidate.{Candidate}
 use Rattle.candidate_records.specs.declared.CandidateEstimate.{CandidateEstimate}
-
--- the first table with a number, or none
-unfoldable pub lookup : List Table → ℕ → List Table
-lookup ts n = take 1 (filterOf (λ t. eqb (t .number) n) ts)
+use Rattle.lookups.specs.Lookups.{lookup}
+use Rattle.reliefs.specs.Reliefs.{atLevel, bytesOf, reliefOf}
 
 -- the tables of a list of numbers; a number that no table has counts for nothing
 abbrev pub matched : List Table → List ℕ → List Table
 matched ts ns = flatMap (lookup ts) ns
 
-abbrev pub atLevel : ℕ → List Table → List Table
-atLevel l ts = filterOf (λ t. eqb (t .level) l) ts
-
 abbrev pub offLevel : ℕ → List Table → List Table
 offLevel l ts = filterOf (λ t. not (eqb (t .level) l)) ts
-
-unfoldable pub bytesOf : List Table → ℕ
-bytesOf [] = 0
-bytesOf (t ∷ ts) = t .size + bytesOf ts
 
 -- the smallest number of some tables, and `other` where there is none
 unfoldable pub oldestFrom : ℕ → List Table → ℕ
@@ -45,19 +35,6 @@ oldestFrom best (t ∷ ts) = oldestFrom (min best (t .number)) ts
 unfoldable pub oldestOf : ℕ → List Table → ℕ
 oldestOf other [] = other
 oldestOf other (t ∷ ts) = oldestFrom (t .number) ts
-
--- the share that some bytes are of a level's excess over its budget, which counts as 1 at least
-abbrev pub shareOf : ℕ → ℕ → ℕ → Float
-shareOf bytes total budget = minimumOf (div binary64 (floatOf bytes) (floatOf (max (total - budget) 1))) f1
-
--- the share by the first of some entries
-unfoldable pub firstShare : List Entry → ℕ → ℕ → Float
-firstShare [] bytes total = f0
-firstShare (e ∷ es) bytes total = shareOf bytes total (e .budget)
-
--- the share by the first entry with the level
-abbrev pub reliefOf : List Table → List Entry → ℕ → ℕ → Float
-reliefOf ts es level bytes = firstShare (filterOf (λ e. eqb (e .level) level) es) bytes (bytesOf (atLevel level ts))
 
 abbrev pub isL0Candidate : Candidate → Bool
 isL0Candidate c = eqb (c .kind) 1

@@ -11,7 +11,9 @@ use Rattle.lists.specs.Filter.{filterOf, filter-small}
 use Rattle.records.specs.declared.tables.Table.{Table}
 use Rattle.records.specs.declared.tables.Entry.{Entry}
 use Rattle.candidate_records.specs.declared.Candidate.{Candidate}
-use Rattle.estimates.specs.Estimate.{lookup, matched, atLevel, offLevel, bytesOf, isL0Candidate, inputsOf, estimateOf}
+use Rattle.lookups.specs.Lookups.{lookup}
+use Rattle.reliefs.specs.Reliefs.{atLevel, bytesOf}
+use Rattle.estimates.specs.Estimate.{matched, offLevel, isL0Candidate, inputsOf, estimateOf}
 use Rattle.estimates.specs.Estimate.Members.{level-and-rest}
 use Rattle.kinds.specs.declared.vector.PressureVector.{PressureVector}
 use Rattle.kinds.specs.declared.focus.FocusState.{FocusState}

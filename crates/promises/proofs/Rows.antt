@@ -31,7 +31,9 @@ use Rattle.l0_words.specs.L0.{l0Offers}
 use Rattle.candidate_words.specs.Candidates.{batchOf, moveOffers, levelOffers, overOffers, offersOf}
 use Rattle.l0_words.specs.Words.{wordsFrom, numbersIn}
 use Rattle.candidates.specs.Generate.{inputChecks, generateFault, generatedOf}
-use Rattle.estimates.specs.Estimate.{lookup, bytesOf, oldestFrom, oldestOf, firstShare, estimateOf}
+use Rattle.lookups.specs.Lookups.{lookup}
+use Rattle.reliefs.specs.Reliefs.{bytesOf, firstShare}
+use Rattle.estimates.specs.Estimate.{oldestFrom, oldestOf, estimateOf}
 use Rattle.estimate_faults.specs.Faults.{estimateFault}
 use Rattle.estimates.specs.Estimate.Call.{estimatedOf}
 use Rattle.scores.specs.Score.{benefitOf, scoreOf}

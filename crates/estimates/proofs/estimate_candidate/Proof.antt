@@ -1,7 +1,10 @@
 -- `estimates::estimate_candidate` meets its contract.
 use Rattle.estimates.specs.Estimate.Tally.{estimate-l0, estimate-level}
+use Rattle.estimates.specs.Estimate.Members.{level-bytes}
+use Rattle.reliefs.specs.Reliefs.{atLevel, bytesOf, relief-exact}
+use Rattle.records.specs.Tables.{tablesOf}
 use denote.Ref.{now}
-use Prim.Native.Nat.{_+_, _-_}
+use Prim.Native.Nat.{_+_, _-_, _^_, _≤_}
 use mathlib.Core.Path.{_≡_}
 use native.Mathlib.Omega.{arith}
 use borrow.Author.Needs.{needs}
@@ -47,12 +50,14 @@ saturating-sub-requires-2 : tie.Need-saturating-sub-requires-2
 saturating-sub-requires-2 c κs = tt
 
 debt-relief-requires : tie.Need-debt-relief-requires
-debt-relief-requires c κs = search needs
+debt-relief-requires c κs = tt
 
 returns-2 : tie.Need-returns-2
 returns-2 c = let a = c .before .before .before .before .before .before .before .before .before .before .args in
+    let p = c .before .before .before .before .before .before .before .before .before .before .pre in
+    let fits : bytesOf (atLevel (a .c .level) (tablesOf (now (a .tables)))) ≤ 2 ^ 64 - 1 = omega (arith, level-bytes _ (a .c .level) (p .small) (p .few)) in
     let e : a .c .start + a .c .count - a .c .start ≡ a .c .count = omega arith in
-    rw (c .before .saturating-sub2 .ensures, c .before .before .rewrite .ensures, c .debt-relief .ensures) (estimate-level _ _ _ (now (a .numbers)) (a .c) _ (c .before .before .before .before .if1 .left) (rw e at (c .before .before .before .tally-numbers2 .ensures .0)))
+    rw (c .before .saturating-sub2 .ensures, c .before .before .rewrite .ensures, c .debt-relief .ensures, relief-exact _ _ _ _ fits) (estimate-level _ _ _ (now (a .numbers)) (a .c) _ (c .before .before .before .before .if1 .left) (rw e at (c .before .before .before .tally-numbers2 .ensures .0)))
 
 pub estimate-candidate-spec : {M : Type 1} → statement M
 estimate-candidate-spec =

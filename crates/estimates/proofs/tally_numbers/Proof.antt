@@ -1,7 +1,8 @@
 -- `estimates::tally_numbers` meets its contract.
 use Rattle.estimates.specs.Estimate.Tally.{tallyFrom, tallyOf, tally-is, with-sum, with-files}
 use Rattle.lists.specs.Flat.{flat-more, flat-end}
-use Rattle.estimates.specs.Estimate.{lookup, matched}
+use Rattle.lookups.specs.Lookups.{lookup}
+use Rattle.estimates.specs.Estimate.{matched}
 use Rattle.estimates.specs.Estimate.Members.{small-found}
 use Rattle.records.specs.Tables.{tablesOf}
 use denote.Ref.{now}

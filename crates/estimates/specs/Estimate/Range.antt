@@ -9,7 +9,6 @@ use lib.ListN.{length, drop, length-take}
 use lib.Ieee.{Float, ofInt}
 use borrow.Author.Tests.{le-ltb}
 use Rattle.lists.specs.Tests.{by-test}
-use Rattle.lists.specs.Filter.{filter-small}
 use Rattle.arith.specs.Floats.{f0, f1}
 use Rattle.arith.specs.Floats.Range.{Plain, round-plain, div-plain}
 use Rattle.arith.specs.Whole.{floatOf}
@@ -19,8 +18,9 @@ use Rattle.records.specs.declared.tables.Entry.{Entry}
 use Rattle.candidate_records.specs.declared.Candidate.{Candidate}
 use Rattle.candidate_faults.specs.Candidates.{inUnit, estimateOut}
 use Rattle.candidate_faults.specs.InUnit.{zero-unit, one-unit, cut-unit, plain-low}
-use Rattle.estimates.specs.Estimate.{shareOf, firstShare, reliefOf, matched, atLevel, offLevel, bytesOf, oldestOf, isL0Candidate, inputsOf, estimateOf}
-use Rattle.estimates.specs.Estimate.Members.{Among, Small, matched-among, matched-small, at-among, level-and-rest, bytes-le}
+use Rattle.reliefs.specs.Reliefs.{atLevel, bytesOf, shareOf, firstShare, reliefOf}
+use Rattle.estimates.specs.Estimate.{matched, offLevel, oldestOf, isL0Candidate, inputsOf, estimateOf}
+use Rattle.estimates.specs.Estimate.Members.{matched-among, matched-small, level-and-rest, few-bytes, level-bytes}
 use Rattle.estimates.specs.Estimate.Accepted.{Sound}
 
 -- ---- reliefs
@@ -44,10 +44,6 @@ first-unit (e ∷ es) bytes total h k = share-unit bytes total (e .budget) h k
 
 -- ---- all of it
 
--- at most 1,024 tables of the list
-few-bytes : (ts some : List Table) → Small ts → Among ts some → length some ≤ 1024 → bytesOf some ≤ 2 ^ 50
-few-bytes ts some small among few = omega (arith, bytes-le some (λ t m. small t (among t m)))
-
 module _ (ts : List Table) (next : ℕ) (es : List Entry) (ns : List ℕ) (c : Candidate) where
   pub estimate-in-range : Sound ts (length ns) c → next ≤ 2 ^ 53 → estimateOut (estimateOf ts next es ns c) ≡ false
   unfolding estimateOut estimateOf
@@ -58,7 +54,7 @@ module _ (ts : List Table) (next : ℕ) (es : List Entry) (ns : List ℕ) (c : C
       let overlap : ℕ = bytesOf (offLevel level found) in
       let few : length found ≤ 1024 = omega (arith, matched-small ts (inputsOf ns c), length-take (c .count) (drop (c .start) ns), s .short) in
       let all : input + overlap ≤ 2 ^ 50 = omega (arith, level-and-rest level found, few-bytes ts found (s .small) (matched-among ts (inputsOf ns c)) few) in
-      let whole : bytesOf (atLevel (c .level) ts) ≤ 2 ^ 50 = few-bytes ts _ (s .small) (at-among (c .level) ts) (omega (arith, filter-small (λ t. eqb (t .level) (c .level)) ts, s .few)) in
+      let whole : bytesOf (atLevel (c .level) ts) ≤ 2 ^ 50 = level-bytes ts (c .level) (s .small) (s .few) in
       rw (
         by-test InUnit (isL0Candidate c) f1 f0 (λ _. one-unit) (λ _. zero-unit),
         by-test InUnit (isL0Candidate c) f0 (reliefOf ts es (c .level) input) (λ _. zero-unit) (λ _. first-unit _ input _ (omega arith) (omega arith)),

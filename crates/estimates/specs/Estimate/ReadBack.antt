@@ -18,7 +18,8 @@ use Rattle.candidate_records.specs.declared.Candidate.{Candidate}
 use Rattle.candidate_records.specs.declared.CandidateEstimate.{CandidateEstimate}
 use Rattle.candidate_records.specs.Candidates.{estimateBy, estimatesOf}
 use Rattle.records.specs.Joined.{records-flat}
-use Rattle.estimates.specs.Estimate.{firstShare, isL0Candidate, estimateOf, nineWords}
+use Rattle.reliefs.specs.Reliefs.{firstShare}
+use Rattle.estimates.specs.Estimate.{isL0Candidate, estimateOf, nineWords}
 use Rattle.estimates.specs.Estimate.Call.{estimateWordsOf}
 
 -- its floats are binary64

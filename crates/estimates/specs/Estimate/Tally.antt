@@ -14,14 +14,9 @@ use Rattle.arith.specs.Floats.{f0, f1}
 use Rattle.records.specs.declared.tables.Table.{Table}
 use Rattle.records.specs.declared.tables.Entry.{Entry}
 use Rattle.candidate_records.specs.declared.Candidate.{Candidate}
-use Rattle.estimates.specs.declared.Lookup.{Lookup}
-use Rattle.estimates.specs.declared.Lookup.the-variants.{None as Nothing, One}
 use Rattle.estimates.specs.declared.Tally.{Tally}
-use Rattle.estimates.specs.Estimate.{matched, atLevel, offLevel, bytesOf, oldestFrom, oldestOf, reliefOf, inputsOf, estimateOf}
-
-abbrev pub tablesIn : Lookup → List Table
-tablesIn Nothing = []
-tablesIn (One t) = t ∷ []
+use Rattle.reliefs.specs.Reliefs.{atLevel, bytesOf, reliefOf}
+use Rattle.estimates.specs.Estimate.{matched, offLevel, oldestFrom, oldestOf, inputsOf, estimateOf}
 
 unfoldable pub tallyOf : ℕ → ℕ → List Table → Tally
 tallyOf level next ts =

@@ -1,6 +1,6 @@
--- `estimates::find` meets its contract. None before `i` has the number.
+-- `lookups::find` meets its contract. None before `i` has the number.
 use Rattle.lists.specs.Filter.{filterOf, filter-keep, filter-skip, filter-end}
-use Rattle.estimates.specs.Estimate.{lookup}
+use Rattle.lookups.specs.Lookups.{lookup}
 use Rattle.records.specs.declared.tables.Table.{Table}
 use Rattle.records.specs.Tables.{tablesOf, noTable}
 use mathlib.Core.Bool.{Bool}
@@ -9,11 +9,11 @@ use borrow.Author.Tests.{eq-eqb, ne-eqb}
 use denote.Ref.{now}
 use lib.ListN.{length, drop}
 use Prim.Native.Nat.{ℕ, _-_, _≤_}
-use mathlib.Core.Path.{_≡_, refl, sym, _∙_}
+use mathlib.Core.Path.{_≡_, refl, _∙_}
 use borrow.Author.Needs.{needs}
 use native.Mathlib.Omega.{arith}
-use Rattle.estimates.proofs.find.Statement.{statement}
-use Rattle.estimates.proofs.find.Tie as tie
+use Rattle.lookups.proofs.find.Statement.{statement}
+use Rattle.lookups.proofs.find.Tie as tie
 
 abbrev hasNumber : ℕ → Table → Bool
 hasNumber n t = eqb (t .number) n

@@ -1,6 +1,6 @@
--- `estimates::debt_relief` meets its contract. No entry before `i` has the level.
+-- `reliefs::debt_relief` meets its contract. No entry before `i` has the level.
 use Rattle.lists.specs.Filter.{filterOf, filter-keep, filter-skip, filter-end}
-use Rattle.estimates.specs.Estimate.{firstShare}
+use Rattle.reliefs.specs.Reliefs.{firstShare}
 use Rattle.records.specs.declared.tables.Entry.{Entry}
 use Rattle.records.specs.Tables.{entriesOf, noEntry}
 use mathlib.Core.Bool.{Bool}
@@ -9,11 +9,11 @@ use borrow.Author.Tests.{eq-eqb, ne-eqb}
 use denote.Ref.{now}
 use lib.ListN.{length, drop}
 use Prim.Native.Nat.{ℕ, _-_, _≤_}
-use mathlib.Core.Path.{_≡_, refl, sym, _∙_}
+use mathlib.Core.Path.{_≡_, refl, _∙_}
 use borrow.Author.Needs.{needs}
 use native.Mathlib.Omega.{arith}
-use Rattle.estimates.proofs.debt_relief.Statement.{statement}
-use Rattle.estimates.proofs.debt_relief.Tie as tie
+use Rattle.reliefs.proofs.debt_relief.Statement.{statement}
+use Rattle.reliefs.proofs.debt_relief.Tie as tie
 
 abbrev hasLevel : ℕ → Entry → Bool
 hasLevel level e = eqb (e .level) level
@@ -34,7 +34,7 @@ entry-at-requires : tie.Need-entry-at-requires Inv-loop μ-loop
 entry-at-requires c κs = tt
 
 level-bytes-requires : tie.Need-level-bytes-requires Inv-loop μ-loop
-level-bytes-requires c κs = c .before .before .before .before .before .before .before .before .pre
+level-bytes-requires c κs = tt
 
 share-requires : tie.Need-share-requires Inv-loop μ-loop
 share-requires c κs = tt

@@ -1,7 +1,7 @@
--- `estimates::share` meets its contract.
+-- `reliefs::share` meets its contract.
 use mathlib.Core.Path.{_∙_}
-use Rattle.estimates.proofs.share.Statement.{statement}
-use Rattle.estimates.proofs.share.Tie as tie
+use Rattle.reliefs.proofs.share.Statement.{statement}
+use Rattle.reliefs.proofs.share.Tie as tie
 
 saturating-sub-requires : tie.Need-saturating-sub-requires
 saturating-sub-requires c κs = tt

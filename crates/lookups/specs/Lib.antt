@@ -1,0 +1,3 @@
+-- The first table with a number, and its laws.
+pub mod Lookups
+pub mod Members

@@ -1,0 +1,2 @@
+-- What share of a level's excess some bytes are.
+pub mod Reliefs

@@ -1,0 +1,44 @@
+-- What share of a level's excess over its budget some bytes are.
+use Prim.Native.Nat.{ℕ, _+_, _-_, _^_, _≤_, min, max}
+use native.Mathlib.Nat.{min-eq-left}
+use mathlib.Core.Path.{_≡_}
+use mathlib.Core.List.{List, [], _∷_}
+use lib.Dec.{eqb}
+use lib.Ieee.{Float, binary64, div}
+use Rattle.lists.specs.Filter.{filterOf}
+use Rattle.arith.specs.Floats.{f0, f1, minimumOf}
+use Rattle.arith.specs.Whole.{floatOf}
+use Rattle.records.specs.declared.tables.Table.{Table}
+use Rattle.records.specs.declared.tables.Entry.{Entry}
+
+abbrev pub atLevel : ℕ → List Table → List Table
+atLevel l ts = filterOf (λ t. eqb (t .level) l) ts
+
+unfoldable pub bytesOf : List Table → ℕ
+bytesOf [] = 0
+bytesOf (t ∷ ts) = t .size + bytesOf ts
+
+-- a level's bytes, which stop at the largest u64
+abbrev pub levelBytes : ℕ → List Table → ℕ
+levelBytes l ts = min (bytesOf (atLevel l ts)) (2 ^ 64 - 1)
+
+-- the share that some bytes are of a level's excess over its budget, which counts as 1 at least
+abbrev pub shareOf : ℕ → ℕ → ℕ → Float
+shareOf bytes total budget = minimumOf (div binary64 (floatOf bytes) (floatOf (max (total - budget) 1))) f1
+
+-- the share by the first of some entries
+unfoldable pub firstShare : List Entry → ℕ → ℕ → Float
+firstShare [] bytes total = f0
+firstShare (e ∷ es) bytes total = shareOf bytes total (e .budget)
+
+-- the share by the first entry with the level
+abbrev pub reliefOf : List Table → List Entry → ℕ → ℕ → Float
+reliefOf ts es level bytes = firstShare (filterOf (λ e. eqb (e .level) level) es) bytes (bytesOf (atLevel level ts))
+
+-- the same of a level's bytes that stop
+abbrev pub stoppedRelief : List Table → List Entry → ℕ → ℕ → Float
+stoppedRelief ts es level bytes = firstShare (filterOf (λ e. eqb (e .level) level) es) bytes (levelBytes level ts)
+
+-- which is that very share where they fit
+pub relief-exact : (ts : List Table) (es : List Entry) (level bytes : ℕ) → bytesOf (atLevel level ts) ≤ 2 ^ 64 - 1 → stoppedRelief ts es level bytes ≡ reliefOf ts es level bytes
+relief-exact ts es level bytes h = rw (min-eq-left h)
