@@ -1,8 +1,8 @@
 // The score of an estimate under a pressure vector. Nothing is refused.
 ghost use mathlib.Core.Path.{_≡_};
 ghost use Rattle.scores.specs.Score.{scoreOf};
-use kinds::vector::PressureVector;
 use candidate_records::CandidateEstimate;
+use kinds::vector::PressureVector;
 
 const AGE_BONUS_WEIGHT: f64 = 0.01;
 

@@ -9,7 +9,7 @@ use lib.Seq.{drop-cons}
 use Rattle.records.specs.declared.tables.Table.{Table}
 use Rattle.records.specs.Tables.{tableAt}
 use Rattle.lists.specs.Filter.{filterOf, filter-small}
-use Rattle.levels.specs.Levels.{meets}
+use Rattle.overlaps.specs.Overlaps.{meets}
 use Rattle.offers.specs.Offers.{lowOf, highOf}
 use Rattle.writers.specs.Writers.{numbersOf, mergedOf}
 

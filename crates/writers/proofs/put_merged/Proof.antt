@@ -7,7 +7,7 @@ use denote.Ref.{now}
 use borrow.Author.Needs.{needs}
 use Rattle.lists.specs.Filter.{filter-small}
 use Rattle.lists.specs.Writes.{filled-append, filled-clip}
-use Rattle.levels.specs.Levels.{meets, overlappingOf}
+use Rattle.overlaps.specs.Overlaps.{meets, overlappingOf}
 use Rattle.records.specs.Tables.{tablesOf}
 use Rattle.writers.specs.Steps.{numbers-length}
 use Rattle.writers.proofs.put_merged.Statement.{statement}
