@@ -5,10 +5,10 @@ ghost use Rattle.l0_words.specs.Written.{Written};
 ghost use Rattle.candidate_words.specs.Candidates.{batchesOf};
 ghost use Rattle.candidate_words.specs.Writing.{Fit};
 use crate::heads::put_candidate;
+use counts::smaller;
 use l0_words::Ends;
 use offers::MAX_ADAPTIVE_BATCH;
 use offers::batches::batch_of;
-use offers::batches::smaller;
 
 // The batches that begin a run of places, each with what it overlaps.
 pub(crate) fn put_batches(

@@ -1,6 +1,6 @@
-// Counts that stop at the ends of a u64, and counts too large for a float. Nothing here is refused.
+// Counts that stop at the ends of a u64 or at each other, and counts too large for a float. Nothing here is refused.
 ghost use mathlib.Core.Path.{_≡_};
-ghost use Prim.Native.Nat.{_-_, max};
+ghost use Prim.Native.Nat.{_-_, max, min};
 ghost use Rattle.counts.specs.Counts.{saturatingAdd, large, anyLarge};
 
 pub fn saturating_add(a: u64, b: u64) -> u64
@@ -28,6 +28,15 @@ pub fn at_least_one(n: u64) -> u64
         return 1;
     }
     n
+}
+
+pub fn smaller(a: usize, b: usize) -> usize
+    ensures { λ r. ⌜ r ≡ min a b ⌝ }
+{
+    if b < a {
+        return b;
+    }
+    a
 }
 
 // A count that a binary64 may not hold.

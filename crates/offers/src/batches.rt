@@ -5,21 +5,13 @@ ghost use lib.ListN.{take};
 ghost use Rattle.records.specs.Tables.{tablesOf};
 ghost use Rattle.offers.specs.Offers.{seedOf, Holds};
 use crate::MAX_ADAPTIVE_BATCH;
+use counts::smaller;
 use records::tables;
 
 // Table places, the first `len` of the eight.
 pub struct Batch {
     pub places: [usize; MAX_ADAPTIVE_BATCH],
     pub len: usize,
-}
-
-pub fn smaller(a: usize, b: usize) -> usize
-    ensures { λ r. ⌜ r ≡ min a b ⌝ }
-{
-    if b < a {
-        return b;
-    }
-    a
 }
 
 // The first `len` of a run of places, as far as it goes, and at most eight.

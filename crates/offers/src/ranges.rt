@@ -6,7 +6,7 @@ ghost use Rattle.keys.specs.Keys.{lesserOf, greaterOf};
 ghost use Rattle.offers.specs.Offers.{endFrom, lowOf, highOf, firstAt, lastAt, heldIn};
 use crate::MAX_ADAPTIVE_BATCH;
 use crate::batches::Batch;
-use crate::batches::smaller;
+use counts::smaller;
 use keys::greater;
 use keys::lesser;
 use keys::part;

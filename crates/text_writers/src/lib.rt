@@ -6,6 +6,7 @@ ghost use lib.ListN.{set, take};
 ghost use Rattle.lists.specs.Writes.{Filled};
 ghost use Rattle.numerals.specs.Numbers.{spelt};
 ghost use Rattle.text_writers.specs.Rows.{behind, rowOf};
+use counts::smaller;
 
 // The most numbers in a row; those behind them are left out.
 pub const MOST: usize = 1024;
@@ -42,15 +43,6 @@ fn put_ended(out: &mut [u8], at: usize, n: u64, byte: u8) -> usize
     let i = put_number(out, at, n);
     put_byte(out, at, i, byte);
     i + 1
-}
-
-fn smaller(a: usize, b: usize) -> usize
-    ensures { λ r. ⌜ r ≡ min a b ⌝ }
-{
-    if b < a {
-        return b;
-    }
-    a
 }
 
 // The byte behind a number that so many follow.

@@ -7,9 +7,9 @@ ghost use Rattle.overlaps.specs.Overlaps.{overlappingOf};
 ghost use Rattle.lists.specs.Writes.{Filled};
 ghost use Rattle.offers.specs.Offers.{heldIn};
 ghost use Rattle.writers.specs.Writers.{numbersOf, mergedIn, mergedOf};
+use counts::smaller;
 use offers::MAX_ADAPTIVE_BATCH;
 use offers::batches::Batch;
-use offers::batches::smaller;
 use offers::ranges;
 use records::tables::number_at;
 
