@@ -1,7 +1,7 @@
 // Text written to a lent buffer from a place on; each writer of more than a byte answers how many there are. Nothing is refused: a byte that would stand past the buffer's end is lost, so that a run over an empty slice counts.
 ghost use mathlib.Core.Path.{_≡_};
 ghost use mathlib.Core.List.{[], _∷_, _++_};
-ghost use Prim.Native.Nat.{_+_, min};
+ghost use Prim.Native.Nat.{_+_};
 ghost use lib.ListN.{set, take};
 ghost use Rattle.lists.specs.Writes.{Filled};
 ghost use Rattle.numerals.specs.Numbers.{spelt};
