@@ -16,7 +16,7 @@ use Rattle.windows.specs.declared.ReadAmpStats.{ReadAmpStats}
 use Rattle.windows.specs.declared.EngineSample.{EngineSample}
 use Rattle.windows.specs.Windows.{probedSum, resolvedSum, probedSince, resolvedSince, deltasLarge}
 use Rattle.kinds.specs.Tuning.{Tuning}
-use Rattle.modes.specs.Mode.{soundOf}
+use Rattle.sound.specs.Sound.{soundOf}
 use Rattle.governor.specs.Observe.{countersFull, acceptedOf}
 use Rattle.state.specs.State.{answered}
 

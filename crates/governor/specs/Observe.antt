@@ -14,7 +14,8 @@ use Rattle.modes.specs.declared.NextMode.{NextMode}
 use Rattle.kinds.specs.Tuning.{Tuning}
 use Rattle.pressure.specs.Sample.{fractionOf}
 use Rattle.pressure.specs.Pressure.{probedOf, signalsOf}
-use Rattle.modes.specs.Mode.{nextModeOf, soundOf, differ}
+use Rattle.modes.specs.Mode.{nextModeOf}
+use Rattle.sound.specs.Sound.{soundOf, differ}
 use Rattle.state.specs.Clock.{timeUpTo, timesOf}
 use Rattle.counts.specs.Counts.{anyLarge}
 use Rattle.state.specs.State.{full, answered}

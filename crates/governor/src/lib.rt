@@ -40,7 +40,7 @@ fn counters_full(s: GovernorState, now: u64, p: PressureSample) -> bool
     let was = s.mode;
     let t = next(s, p);
     let is = t.mode;
-    switches_full(s.counters, modes::are_different(was, is)) | clock::time_full(was, s.times, now)
+    switches_full(s.counters, sound::are_different(was, is)) | clock::time_full(was, s.times, now)
 }
 
 fn with_switch(mut c: Counters, switched: bool) -> Counters
@@ -66,7 +66,7 @@ fn after_accepted(s: GovernorState, now: u64, p: PressureSample) -> GovernorStat
     let focus = s.focus;
     let window = s.window;
     let times = clock::times_after(was, s.times, now);
-    let counters = with_switch(s.counters, modes::are_different(was, mode));
+    let counters = with_switch(s.counters, sound::are_different(was, mode));
     GovernorState {
         mode,
         signals,
@@ -82,7 +82,7 @@ fn observe_fault(s: GovernorState, now: u64, p: PressureSample) -> u64
     ensures { λ r. ⌜ r ≡ observeFault source s now p ⌝ }
 {
     let was = s.mode;
-    if !modes::is_sound(was, s.streaks) {
+    if !sound::is_sound(was, s.streaks) {
         return refusals::BAD_STATE;
     }
     if counts::any_large(p.l0_count, p.l0_write_stall_trigger, p.backlog_levels) {

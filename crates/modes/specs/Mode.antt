@@ -1,28 +1,15 @@
--- The mode and its streaks, one observation at a time, and which states are sound. Definitions only.
-pub mod Differ
+-- The mode and its streaks, one observation at a time. Definitions only.
 pub mod Windows
 use Prim.Native.Nat.{ℕ, _+_}
-use mathlib.Core.Bool.{Bool, true, false, cond, _&&_, _||_}
-use lib.Dec.{leb, ltb, eqb}
-use lib.Ieee.{Float, le}
+use mathlib.Core.Bool.{Bool, cond}
+use lib.Dec.{leb}
+use lib.Ieee.{Float}
 use Rattle.kinds.specs.declared.mode.GovernorMode.{GovernorMode}
 use Rattle.kinds.specs.declared.mode.GovernorMode.the-variants.{Balanced, ReadProtect, WriteEmergency}
 use Rattle.state.specs.declared.Streaks.{Streaks}
 use Rattle.modes.specs.declared.NextMode.{NextMode}
 use Rattle.kinds.specs.Tuning.{Tuning}
-
--- what an observation is, by its L0 fraction, its debt ratio and the smoothed probe count after it
-abbrev pub hot : Tuning → Float → Float → Bool
-hot G fraction ratio = le (G .enterFraction) fraction || le (G .enterRatio) ratio
-
-abbrev pub recovered : Tuning → Float → Float → Bool
-recovered G fraction ratio = le fraction (G .exitFraction) && le ratio (G .exitRatio)
-
-abbrev pub high : Tuning → Float → Bool
-high G probed = le (G .enterProbed) probed
-
-abbrev pub calm : Tuning → Float → Bool
-calm G probed = le probed (G .exitProbed)
+use Rattle.thresholds.specs.Thresholds.{hot, recovered, high, calm}
 
 -- a streak after one more that passed its test or did not
 abbrev pub next : Bool → ℕ → ℕ
@@ -48,24 +35,3 @@ nextModeOf G ReadProtect k fraction ratio probed =
     let n = next (calm G probed) (k .«exit_read_protect») in
     cond (hot G fraction ratio) (switched WriteEmergency)
     (cond (leb (G .exitReadProtect) n) (switched Balanced) (stays ReadProtect (k .«enter_read_protect») n (k .«exit_emergency»)))
-
--- the mode's own streak is below its window, and the others are 0
-abbrev pub own : ℕ → ℕ → ℕ → ℕ → Bool
-own window streak a b = ltb streak window && (eqb a 0 && eqb b 0)
-
-unfoldable pub soundOf : Tuning → GovernorMode → Streaks → Bool
-soundOf G Balanced k = own (G .enterReadProtect) (k .«enter_read_protect») (k .«exit_read_protect») (k .«exit_emergency»)
-soundOf G ReadProtect k = own (G .exitReadProtect) (k .«exit_read_protect») (k .«enter_read_protect») (k .«exit_emergency»)
-soundOf G WriteEmergency k = own (G .exitEmergency) (k .«exit_emergency») (k .«enter_read_protect») (k .«exit_read_protect»)
-
--- whether two modes differ
-abbrev pub differ : GovernorMode → GovernorMode → Bool
-differ Balanced Balanced = false
-differ ReadProtect ReadProtect = false
-differ WriteEmergency WriteEmergency = false
-differ Balanced ReadProtect = true
-differ Balanced WriteEmergency = true
-differ ReadProtect Balanced = true
-differ ReadProtect WriteEmergency = true
-differ WriteEmergency Balanced = true
-differ WriteEmergency ReadProtect = true

@@ -1,35 +1,23 @@
-// The mode after one observation, and which states are sound. Nothing here is refused.
+// The mode after one observation. Nothing here is refused.
 ghost use mathlib.Core.Path.{_≡_};
+ghost use mathlib.Core.Bool.{cond};
 ghost use Prim.Native.Nat.{_≤_, _<_, _-_, _^_};
+ghost use lib.Dec.{leb};
 ghost use Rattle.kinds.specs.Tuning.{source};
-ghost use Rattle.modes.specs.Mode.{nextModeOf, soundOf, own, differ, hot, recovered, next, switched, stays};
+ghost use Rattle.modes.specs.Mode.{nextModeOf, next, switched, stays};
 use kinds::mode::GovernorMode;
-use kinds::tuning::READ_PROTECT_ENTER_TABLES_PROBED;
 use kinds::tuning::READ_PROTECT_ENTER_WINDOWS;
-use kinds::tuning::READ_PROTECT_EXIT_TABLES_PROBED;
 use kinds::tuning::READ_PROTECT_EXIT_WINDOWS;
-use kinds::tuning::WRITE_EMERGENCY_ENTER_DEBT_RATIO;
-use kinds::tuning::WRITE_EMERGENCY_ENTER_L0_FRACTION;
-use kinds::tuning::WRITE_EMERGENCY_EXIT_DEBT_RATIO;
-use kinds::tuning::WRITE_EMERGENCY_EXIT_L0_FRACTION;
 use kinds::tuning::WRITE_EMERGENCY_EXIT_WINDOWS;
 use state::Streaks;
+use thresholds::emergency_now;
+use thresholds::has_recovered;
+use thresholds::is_calm;
+use thresholds::is_high;
 
 pub struct NextMode {
     pub mode: GovernorMode,
     pub streaks: Streaks,
-}
-
-fn emergency_now(fraction: f64, ratio: f64) -> bool
-    ensures { λ r. ⌜ r ≡ hot source fraction ratio ⌝ }
-{
-    (fraction >= WRITE_EMERGENCY_ENTER_L0_FRACTION) | (ratio >= WRITE_EMERGENCY_ENTER_DEBT_RATIO)
-}
-
-fn has_recovered(fraction: f64, ratio: f64) -> bool
-    ensures { λ r. ⌜ r ≡ recovered source fraction ratio ⌝ }
-{
-    (fraction <= WRITE_EMERGENCY_EXIT_L0_FRACTION) & (ratio <= WRITE_EMERGENCY_EXIT_DEBT_RATIO)
 }
 
 // One more of a streak, or none. At the largest u32 it stays, which is past every window.
@@ -70,42 +58,14 @@ fn switch_to(mode: GovernorMode) -> NextMode
     keep_mode(mode, 0, 0, 0)
 }
 
-// The mode's own streak is below its window, and the others are 0.
-fn only_own_streak(window: u32, streak: u32, a: u32, b: u32) -> bool
-    ensures { λ r. ⌜ r ≡ own window streak a b ⌝ }
+// A streak that reaches its window ends the mode.
+fn ended(n: u32, window: u32, to: GovernorMode, kept: NextMode) -> NextMode
+    ensures { λ r. ⌜ r ≡ cond (leb window n) (switched to) kept ⌝ }
 {
-    (streak < window) & ((a == 0) & (b == 0))
-}
-
-pub fn is_sound(mode: GovernorMode, k: Streaks) -> bool
-    ensures { λ r. ⌜ r ≡ soundOf source mode k ⌝ }
-{
-    match mode {
-        GovernorMode::Balanced => {
-            only_own_streak(
-                READ_PROTECT_ENTER_WINDOWS,
-                k.enter_read_protect,
-                k.exit_read_protect,
-                k.exit_emergency,
-            )
-        }
-        GovernorMode::ReadProtect => {
-            only_own_streak(
-                READ_PROTECT_EXIT_WINDOWS,
-                k.exit_read_protect,
-                k.enter_read_protect,
-                k.exit_emergency,
-            )
-        }
-        GovernorMode::WriteEmergency => {
-            only_own_streak(
-                WRITE_EMERGENCY_EXIT_WINDOWS,
-                k.exit_emergency,
-                k.enter_read_protect,
-                k.exit_read_protect,
-            )
-        }
+    if n >= window {
+        return switch_to(to);
     }
+    kept
 }
 
 // The mode and the streaks after an observation.
@@ -116,42 +76,34 @@ pub fn next_mode(mode: GovernorMode, k: Streaks, fraction: f64, ratio: f64, prob
     match mode {
         GovernorMode::WriteEmergency => {
             let n = streak(has_recovered(fraction, ratio), k.exit_emergency);
-            if n >= WRITE_EMERGENCY_EXIT_WINDOWS {
-                return switch_to(GovernorMode::Balanced);
-            }
-            return keep_mode(mode, k.enter_read_protect, k.exit_read_protect, n);
+            let kept = keep_mode(mode, k.enter_read_protect, k.exit_read_protect, n);
+            ended(
+                n,
+                WRITE_EMERGENCY_EXIT_WINDOWS,
+                GovernorMode::Balanced,
+                kept,
+            )
         }
         GovernorMode::Balanced => {
             if is_hot {
                 return switch_to(GovernorMode::WriteEmergency);
             }
-            let n = streak(
-                probed >= READ_PROTECT_ENTER_TABLES_PROBED,
-                k.enter_read_protect,
-            );
-            if n >= READ_PROTECT_ENTER_WINDOWS {
-                return switch_to(GovernorMode::ReadProtect);
-            }
-            return keep_mode(mode, n, k.exit_read_protect, k.exit_emergency);
+            let n = streak(is_high(probed), k.enter_read_protect);
+            let kept = keep_mode(mode, n, k.exit_read_protect, k.exit_emergency);
+            ended(
+                n,
+                READ_PROTECT_ENTER_WINDOWS,
+                GovernorMode::ReadProtect,
+                kept,
+            )
         }
         GovernorMode::ReadProtect => {
             if is_hot {
                 return switch_to(GovernorMode::WriteEmergency);
             }
-            let n = streak(
-                probed <= READ_PROTECT_EXIT_TABLES_PROBED,
-                k.exit_read_protect,
-            );
-            if n >= READ_PROTECT_EXIT_WINDOWS {
-                return switch_to(GovernorMode::Balanced);
-            }
-            return keep_mode(mode, k.enter_read_protect, n, k.exit_emergency);
+            let n = streak(is_calm(probed), k.exit_read_protect);
+            let kept = keep_mode(mode, k.enter_read_protect, n, k.exit_emergency);
+            ended(n, READ_PROTECT_EXIT_WINDOWS, GovernorMode::Balanced, kept)
         }
     }
-}
-
-pub fn are_different(a: GovernorMode, b: GovernorMode) -> bool
-    ensures { λ r. ⌜ r ≡ differ a b ⌝ }
-{
-    a.idx() != b.idx()
 }

@@ -15,7 +15,7 @@ use Rattle.kinds.specs.declared.mode.GovernorMode.the-variants.{Balanced, ReadP
 use Rattle.state.specs.declared.Counters.{Counters}
 use Rattle.kinds.specs.declared.kind.CandidateKind.the-variants.{L0, LevelBatch, TrivialMove}
 use Rattle.kinds.specs.Tuning.{Tuning}
-use Rattle.modes.specs.Mode.{differ}
+use Rattle.sound.specs.Sound.{differ}
 use Rattle.state.specs.State.{freshOf}
 use Rattle.governor.specs.Observe.{switches, acceptedOf}
 use Rattle.engine.specs.Engine.{sampleOf}

@@ -11,7 +11,8 @@ use Rattle.arith.specs.Floats.Order.{le-trans}
 use Rattle.arith.specs.Floats.Clamp.{minimum-le}
 use Rattle.kinds.specs.Tuning.{readProtectEnterTablesProbed}
 use Rattle.candidate_faults.specs.Candidates.{inUnit}
-use Rattle.modes.specs.Mode.{soundOf, nextModeOf}
+use Rattle.modes.specs.Mode.{nextModeOf}
+use Rattle.sound.specs.Sound.{soundOf}
 use Rattle.pressure.specs.Sample.{fractionOf}
 use Rattle.pressure.specs.Smoothing.{smoothedOf}
 use Rattle.pressure.specs.Pressure.{componentsOf, blendedOf, signalsOf}

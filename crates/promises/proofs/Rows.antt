@@ -8,7 +8,8 @@ use Rattle.pressure.specs.Smoothing.{smoothedOf}
 use Rattle.pressure.specs.Pacing.{pacingOf}
 use Rattle.kinds.specs.Vector.{dominantOf}
 use Rattle.pressure.specs.Pressure.{blendedOf, signalsOf}
-use Rattle.modes.specs.Mode.{nextModeOf, soundOf}
+use Rattle.modes.specs.Mode.{nextModeOf}
+use Rattle.sound.specs.Sound.{soundOf}
 use Rattle.state.specs.Clock.{timesOf}
 use Rattle.governor.specs.Observe.{countersFull, observeFault, acceptedOf, observedOf}
 use Rattle.promises.specs.Calls.{modes, accepted}

@@ -17,7 +17,8 @@ use Rattle.modes.specs.declared.NextMode.{NextMode}
 use Rattle.kinds.specs.declared.kind.CandidateKind.the-variants.{L0, LevelBatch, TrivialMove}
 use Rattle.kinds.specs.Tuning.{Tuning, source}
 use Rattle.state.specs.State.{freshOf}
-use Rattle.modes.specs.Mode.{switched, soundOf}
+use Rattle.modes.specs.Mode.{switched}
+use Rattle.sound.specs.Sound.{soundOf}
 use Rattle.pressure.specs.Pressure.{probedOf}
 use Rattle.governor.specs.Observe.{acceptedOf, observeChecks, observeFault, observedOf}
 use Rattle.engine.specs.Engine.{sampleOf, engineChecks, engineFault, engineOf}

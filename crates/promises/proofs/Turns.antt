@@ -8,7 +8,8 @@ use Rattle.kinds.specs.declared.mode.GovernorMode.the-variants.{Balanced, ReadP
 use Rattle.state.specs.declared.Streaks.{Streaks}
 use Rattle.modes.specs.declared.NextMode.{NextMode}
 use Rattle.kinds.specs.Tuning.{Tuning}
-use Rattle.modes.specs.Mode.{hot, recovered, high, calm, next, switched, nextModeOf}
+use Rattle.thresholds.specs.Thresholds.{hot, recovered, high, calm}
+use Rattle.modes.specs.Mode.{next, switched, nextModeOf}
 use Rattle.promises.specs.Reading.{Seen, IsHot}
 use Rattle.promises.proofs.Streaks.{by-test, by-order}
 

@@ -7,7 +7,7 @@ use Rattle.kinds.specs.declared.mode.GovernorMode.{GovernorMode}
 use Rattle.kinds.specs.declared.kind.CandidateKind.the-variants.{L0, LevelBatch, TrivialMove}
 use Rattle.kinds.specs.Tuning.{Tuning}
 use Rattle.state.specs.declared.GovernorState.{GovernorState}
-use Rattle.modes.specs.Mode.{differ}
+use Rattle.sound.specs.Sound.{differ}
 use Rattle.report.specs.Counters.{errorOf}
 use Rattle.promises.specs.Calls.{Action, observe, move, outcome, choose, focus, snapshot, accepted}
 

@@ -32,7 +32,8 @@ use Rattle.trace.specs.Trace.{decisionOf}
 use Rattle.log.specs.declared.DecisionLog.{DecisionLog}
 use Rattle.log.specs.Log.{maxKept, logBad, keptWords}
 use Rattle.recording.specs.declared.Recorded.{Recorded}
-use Rattle.recording.specs.Recording.{nextSequence, numbered, recordedOf, recordedWords}
+use Rattle.next_log.specs.Next.{nextSequence}
+use Rattle.recording.specs.Recording.{numbered, recordedOf, recordedWords}
 use Rattle.promises.specs.Rows.{estimating}
 
 -- what goes in: the state, what is lent to generation, the next file number, the rooms of the three buffers, the log and its words

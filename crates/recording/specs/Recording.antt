@@ -1,38 +1,23 @@
--- A decision added to the log: where it goes, what it is numbered, and what is refused. Definitions only.
+-- A decision added to the log: what is refused, the log after it, and its words. Definitions only.
 pub mod Sound
 pub mod Store
 pub mod Kept
 pub mod Newest
 pub mod Run
 pub mod Last
-use Prim.Native.Nat.{ℕ, _+_, _-_, _*_, _^_, min}
+use Prim.Native.Nat.{ℕ, _*_}
 use mathlib.Core.Bool.{cond}
 use mathlib.Core.List.{List, [], _∷_}
 use lib.ListN.{length}
 use lib.Seq.{sets}
-use lib.Dec.{ltb, eqb}
+use lib.Dec.{eqb}
 use Rattle.refusals.specs.Refusals.{_gives_, firstFault, none, badLog}
 use Rattle.decisions.specs.declared.SchedulingDecision.{SchedulingDecision}
 use Rattle.decisions.specs.Decision.{decisionWidth, decisionWords}
 use Rattle.log.specs.declared.DecisionLog.{DecisionLog}
-use Rattle.log.specs.Log.{maxKept, logBad, keptPlace}
+use Rattle.log.specs.Log.{logBad}
+use Rattle.next_log.specs.Next.{nextPlace, nextSequence, nextLog}
 use Rattle.recording.specs.declared.Recorded.{Recorded}
-
--- the next goes after the newest, or over the oldest when all places are kept
-unfoldable pub nextPlace : DecisionLog → ℕ
-nextPlace g = cond (ltb (g .count) maxKept) (keptPlace g (g .count)) (g .first)
-
--- the sequence stays at the top
-abbrev pub nextSequence : DecisionLog → ℕ
-nextSequence g = min (g .sequence + 1) (2 ^ 64 - 1)
-
-abbrev pub nextLog : DecisionLog → DecisionLog
-nextLog g =
-    record {
-      first = cond (ltb (g .count) maxKept) (g .first) (keptPlace g 1);
-      count = cond (ltb (g .count) maxKept) (g .count + 1) maxKept;
-      sequence = nextSequence g;
-    }
 
 -- the caller's own number is overwritten
 abbrev pub numbered : SchedulingDecision → ℕ → SchedulingDecision

@@ -1,54 +1,19 @@
 // Adding a decision to the log: after the newest, or over the oldest when all places are kept.
 ghost use mathlib.Core.Path.{_≡_};
 ghost use lib.ListN.{length};
-ghost use Rattle.recording.specs.Recording.{nextPlace, nextLog, nextSequence, numbered, recordFault, recordedOf, recordedWords};
+ghost use Rattle.recording.specs.Recording.{numbered, recordFault, recordedOf, recordedWords};
 use buffers::put_words;
 use decisions::DECISION_WIDTH;
 use decisions::SchedulingDecision;
 use log::DecisionLog;
-use log::MAX_DECISIONS_KEPT;
-use log::kept_place;
 use log::log_bad;
+use next_log::next_log;
+use next_log::next_place;
+use next_log::next_sequence;
 
 pub struct Recorded {
     pub refusal: u64,
     pub log: DecisionLog,
-}
-
-fn next_place(log: DecisionLog) -> u64
-    ensures { λ r. ⌜ r ≡ nextPlace log ⌝ }
-{
-    if log.count < MAX_DECISIONS_KEPT {
-        return kept_place(log, log.count);
-    }
-    log.first
-}
-
-fn next_sequence(log: DecisionLog) -> u64
-    ensures { λ r. ⌜ r ≡ nextSequence log ⌝ }
-{
-    if log.sequence < 0xffff_ffff_ffff_ffff {
-        return log.sequence + 1;
-    }
-    0xffff_ffff_ffff_ffff
-}
-
-fn next_log(log: DecisionLog) -> DecisionLog
-    ensures { λ r. ⌜ r ≡ nextLog log ⌝ }
-{
-    let sequence = next_sequence(log);
-    if log.count < MAX_DECISIONS_KEPT {
-        return DecisionLog {
-            first: log.first,
-            count: log.count + 1,
-            sequence,
-        };
-    }
-    DecisionLog {
-        first: kept_place(log, 1),
-        count: MAX_DECISIONS_KEPT,
-        sequence,
-    }
 }
 
 fn with_sequence(d: SchedulingDecision, sequence: u64) -> SchedulingDecision

@@ -7,7 +7,7 @@ use Rattle.counts.specs.Counts.{large, anyLarge}
 use Rattle.refusals.specs.Refusals.{Check, _gives_, firstFault, badState, tooLarge, counterFull}
 use Rattle.kinds.specs.Tuning.{Tuning}
 use Rattle.kinds.specs.declared.mode.GovernorMode.{GovernorMode}
-use Rattle.modes.specs.Mode.{soundOf}
+use Rattle.sound.specs.Sound.{soundOf}
 use Rattle.state.specs.declared.Streaks.{Streaks}
 use Rattle.state.specs.declared.Window.{Window}
 use Rattle.windows.specs.declared.ReadAmpStats.{ReadAmpStats}

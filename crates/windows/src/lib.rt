@@ -79,7 +79,7 @@ pub fn window_fault(
 ) -> u64
     ensures { λ r. ⌜ r ≡ windowFault source was k w e a ⌝ }
 {
-    if !modes::is_sound(was, k) {
+    if !sound::is_sound(was, k) {
         return refusals::BAD_STATE;
     }
     let large = counts::any_large(e.l0_count, e.l0_write_stall_trigger, e.backlog_levels);

@@ -10,7 +10,7 @@ use Rattle.counts.specs.Counts.{anyLarge}
 use Rattle.refusals.specs.Refusals.{_gives_, firstFault, none, badState, tooLarge, counterFull}
 use Rattle.refusals.specs.Checks.{none-found}
 use Rattle.kinds.specs.Tuning.{Tuning}
-use Rattle.modes.specs.Mode.{soundOf}
+use Rattle.sound.specs.Sound.{soundOf}
 use Rattle.state.specs.declared.Window.{Window}
 use Rattle.state.specs.declared.GovernorState.{GovernorState}
 use Rattle.state.specs.declared.Observed.{Observed}

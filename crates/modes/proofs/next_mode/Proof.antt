@@ -1,7 +1,8 @@
 -- `modes::next_mode` meets its contract.
 use lib.Dec.{lit<}
-use Rattle.modes.specs.Mode.{nextModeOf}
-use Rattle.modes.specs.Mode.Windows.{reached, below, unreached}
+use Rattle.kinds.specs.declared.mode.GovernorMode.the-variants.{Balanced, ReadProtect, WriteEmergency}
+use Rattle.modes.specs.Mode.{switched, stays, nextModeOf}
+use Rattle.modes.specs.Mode.Windows.{as-whole}
 use Rattle.modes.proofs.next_mode.Statement.{statement}
 use Rattle.modes.proofs.next_mode.Tie as tie
 
@@ -17,73 +18,70 @@ has-recovered-requires c κs = tt
 streak-requires : tie.Need-streak-requires
 streak-requires c κs = tt
 
+keep-mode-requires : tie.Need-keep-mode-requires
+keep-mode-requires c κs = tt
+
+ended-requires : tie.Need-ended-requires
+ended-requires c κs = tt
+
+enum-told-2 : tie.Need-enum-told-2
+enum-told-2 c = c .match .keys2
+
 switch-to-requires : tie.Need-switch-to-requires
 switch-to-requires c κs = tt
 
 returns : tie.Need-returns
 unfolding nextModeOf
-returns c = simp (c .before .before .before .before .enum-told .given .1, c .switch-to .ensures, ← c .before .before .before .has-recovered .ensures, reached 3 (c .before .before .streak .ensures) (c .before .if1 .taken))
+returns c = simp (c .before .before .enum-told2 .given .1, c .switch-to .ensures, ← c .before .before .before .before .emergency-now .ensures, c .before .if1 .taken)
 
-keep-mode-requires : tie.Need-keep-mode-requires
-keep-mode-requires c κs = tt
-
-returns-2 : tie.Need-returns-2
-unfolding nextModeOf
-returns-2 c = simp (c .before .before .before .before .enum-told .given .1, c .keep-mode .ensures, ← c .before .before .before .has-recovered .ensures, unreached 3 (c .before .before .streak .ensures) (c .before .if1 .left) (lit< tt), below 3 (c .before .before .streak .ensures) (c .before .if1 .left) (lit< tt))
-
-enum-told-2 : tie.Need-enum-told-2
-enum-told-2 c = c .match .keys2
-
-switch-to-requires-2 : tie.Need-switch-to-requires-2
-switch-to-requires-2 c κs = tt
-
-returns-3 : tie.Need-returns-3
-unfolding nextModeOf
-returns-3 c = simp (c .before .before .enum-told2 .given .1, c .switch-to2 .ensures, ← c .before .before .before .before .emergency-now .ensures, c .before .if2 .taken)
+is-high-requires : tie.Need-is-high-requires
+is-high-requires c κs = tt
 
 streak-requires-2 : tie.Need-streak-requires-2
 streak-requires-2 c κs = tt
 
-switch-to-requires-3 : tie.Need-switch-to-requires-3
-switch-to-requires-3 c κs = tt
-
-returns-4 : tie.Need-returns-4
-unfolding nextModeOf
-returns-4 c = simp (c .before .before .before .before .enum-told2 .given .1, c .switch-to3 .ensures, ← c .before .before .before .before .before .before .emergency-now .ensures, c .before .before .before .if2 .left, reached 3 (c .before .before .streak2 .ensures) (c .before .if3 .taken))
-
 keep-mode-requires-2 : tie.Need-keep-mode-requires-2
 keep-mode-requires-2 c κs = tt
 
-returns-5 : tie.Need-returns-5
-unfolding nextModeOf
-returns-5 c = simp (c .before .before .before .before .enum-told2 .given .1, c .keep-mode2 .ensures, ← c .before .before .before .before .before .before .emergency-now .ensures, c .before .before .before .if2 .left, unreached 3 (c .before .before .streak2 .ensures) (c .before .if3 .left) (lit< tt), below 3 (c .before .before .streak2 .ensures) (c .before .if3 .left) (lit< tt))
+ended-requires-2 : tie.Need-ended-requires-2
+ended-requires-2 c κs = tt
 
 enum-told-3 : tie.Need-enum-told-3
 enum-told-3 c = c .match .keys3
 
-switch-to-requires-4 : tie.Need-switch-to-requires-4
-switch-to-requires-4 c κs = tt
+switch-to-requires-2 : tie.Need-switch-to-requires-2
+switch-to-requires-2 c κs = tt
 
-returns-6 : tie.Need-returns-6
+returns-2 : tie.Need-returns-2
 unfolding nextModeOf
-returns-6 c = simp (c .before .before .enum-told3 .given .1, c .switch-to4 .ensures, ← c .before .before .before .before .emergency-now .ensures, c .before .if4 .taken)
+returns-2 c = simp (c .before .before .enum-told3 .given .1, c .switch-to2 .ensures, ← c .before .before .before .before .emergency-now .ensures, c .before .if2 .taken)
+
+is-calm-requires : tie.Need-is-calm-requires
+is-calm-requires c κs = tt
 
 streak-requires-3 : tie.Need-streak-requires-3
 streak-requires-3 c κs = tt
 
-switch-to-requires-5 : tie.Need-switch-to-requires-5
-switch-to-requires-5 c κs = tt
-
-returns-7 : tie.Need-returns-7
-unfolding nextModeOf
-returns-7 c = simp (c .before .before .before .before .enum-told3 .given .1, c .switch-to5 .ensures, ← c .before .before .before .before .before .before .emergency-now .ensures, c .before .before .before .if4 .left, reached 4 (c .before .before .streak3 .ensures) (c .before .if5 .taken))
-
 keep-mode-requires-3 : tie.Need-keep-mode-requires-3
 keep-mode-requires-3 c κs = tt
 
-returns-8 : tie.Need-returns-8
+ended-requires-3 : tie.Need-ended-requires-3
+ended-requires-3 c κs = tt
+
+returns-3 : tie.Need-returns-3
 unfolding nextModeOf
-returns-8 c = simp (c .before .before .before .before .enum-told3 .given .1, c .keep-mode3 .ensures, ← c .before .before .before .before .before .before .emergency-now .ensures, c .before .before .before .if4 .left, unreached 4 (c .before .before .streak3 .ensures) (c .before .if5 .left) (lit< tt), below 4 (c .before .before .streak3 .ensures) (c .before .if5 .left) (lit< tt))
+returns-3 c = let s = c .before .before in let m = s .before .before in let k = m .before .before .before .args .k in
+    simp (m .enum-told .given .1, c .ended .ensures, c .before .keep-mode .ensures, ← s .before .has-recovered .ensures) (as-whole 3 (s .streak .ensures) (lit< tt) (switched Balanced) (stays WriteEmergency (k .«enter_read_protect») (k .«exit_read_protect»)))
+
+returns-4 : tie.Need-returns-4
+unfolding nextModeOf
+returns-4 c = let s = c .before .before in let i = s .before .before in let e = i .before .before .before in let k = e .before .args .k in
+    simp (i .before .enum-told2 .given .1, c .ended2 .ensures, c .before .keep-mode2 .ensures, ← e .emergency-now .ensures, i .if1 .left, ← s .before .is-high .ensures) (as-whole 3 (s .streak2 .ensures) (lit< tt) (switched ReadProtect) (λ n. stays Balanced n (k .«exit_read_protect») (k .«exit_emergency»)))
+
+returns-5 : tie.Need-returns-5
+unfolding nextModeOf
+returns-5 c = let s = c .before .before in let i = s .before .before in let e = i .before .before .before in let k = e .before .args .k in
+    simp (i .before .enum-told3 .given .1, c .ended3 .ensures, c .before .keep-mode3 .ensures, ← e .emergency-now .ensures, i .if2 .left, ← s .before .is-calm .ensures) (as-whole 4 (s .streak3 .ensures) (lit< tt) (switched Balanced) (λ n. stays ReadProtect (k .«enter_read_protect») n (k .«exit_emergency»)))
 
 pub next-mode-spec : {M : Type 1} → statement M
 next-mode-spec =
@@ -93,23 +91,22 @@ next-mode-spec =
     enum-told
     has-recovered-requires
     streak-requires
+    keep-mode-requires
+    ended-requires
+    enum-told-2
     switch-to-requires
     returns
-    keep-mode-requires
-    returns-2
-    enum-told-2
-    switch-to-requires-2
-    returns-3
+    is-high-requires
     streak-requires-2
-    switch-to-requires-3
-    returns-4
     keep-mode-requires-2
-    returns-5
+    ended-requires-2
     enum-told-3
-    switch-to-requires-4
-    returns-6
+    switch-to-requires-2
+    returns-2
+    is-calm-requires
     streak-requires-3
-    switch-to-requires-5
-    returns-7
     keep-mode-requires-3
-    returns-8)
+    ended-requires-3
+    returns-3
+    returns-4
+    returns-5)

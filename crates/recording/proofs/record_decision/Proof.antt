@@ -2,7 +2,8 @@
 use mathlib.Core.Path.{sym, _∙_}
 use borrow.Author.Tests.{eq-eqb, ne-eqb}
 use Rattle.recording.specs.Recording.{recordedOf, recordedWords}
-use Rattle.recording.specs.Recording.Sound.{record-sound, next-small}
+use Rattle.next_log.specs.Next.Small.{next-small}
+use Rattle.recording.specs.Recording.Sound.{record-sound}
 use native.Mathlib.Omega.{arith}
 use borrow.Author.Needs.{needs}
 use Rattle.recording.proofs.record_decision.Statement.{statement}

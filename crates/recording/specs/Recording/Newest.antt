@@ -13,7 +13,8 @@ use Rattle.decisions.specs.declared.SchedulingDecision.{SchedulingDecision}
 use Rattle.decisions.specs.Decision.{decisionWidth, decisionWords}
 use Rattle.log.specs.declared.DecisionLog.{DecisionLog}
 use Rattle.log.specs.Log.{maxKept, logBad, keptPlace, keptFrom, keptWords}
-use Rattle.recording.specs.Recording.{nextPlace, nextSequence, numbered, recordFault, recordedOf, recordedWords}
+use Rattle.next_log.specs.Next.{nextPlace, nextSequence}
+use Rattle.recording.specs.Recording.{numbered, recordFault, recordedOf, recordedWords}
 use Rattle.log.specs.Log.Sound.{Sound, is-sound, sound-good}
 use Rattle.recording.specs.Recording.Kept.{kept-grown, kept-replaced}
 

@@ -20,7 +20,7 @@ use Rattle.kinds.specs.Numbers.{modeNumber, dominantNumber}
 use Rattle.state.specs.State.{freshOf}
 use Rattle.counts.specs.Counts.{anyLarge}
 use Rattle.governor.specs.Observe.{countersFull, observeFault, observedOf}
-use Rattle.modes.specs.Mode.{soundOf}
+use Rattle.sound.specs.Sound.{soundOf}
 use Rattle.pressure.specs.Pacing.{pacingOf}
 use Rattle.kinds.specs.Vector.{dominantOf}
 use Rattle.pressure.specs.Pacing.Bounds.{delay-most}

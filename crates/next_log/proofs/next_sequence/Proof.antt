@@ -1,7 +1,7 @@
--- `recording::next_sequence` meets its contract.
+-- `next_log::next_sequence` meets its contract.
 use native.Mathlib.Omega.{arith}
-use Rattle.recording.proofs.next_sequence.Statement.{statement}
-use Rattle.recording.proofs.next_sequence.Tie as tie
+use Rattle.next_log.proofs.next_sequence.Statement.{statement}
+use Rattle.next_log.proofs.next_sequence.Tie as tie
 
 add-result : tie.Need-add-result
 add-result c = omega arith

@@ -1,7 +1,7 @@
--- `modes::is_sound` meets its contract.
-use Rattle.modes.specs.Mode.{soundOf}
-use Rattle.modes.proofs.is_sound.Statement.{statement}
-use Rattle.modes.proofs.is_sound.Tie as tie
+-- `sound::is_sound` meets its contract.
+use Rattle.sound.specs.Sound.{soundOf}
+use Rattle.sound.proofs.is_sound.Statement.{statement}
+use Rattle.sound.proofs.is_sound.Tie as tie
 
 enum-told : tie.Need-enum-told
 enum-told c = c .match .keys1

@@ -1,7 +1,7 @@
--- `modes::are_different` meets its contract.
-use Rattle.modes.specs.Mode.Differ.{differ-is}
-use Rattle.modes.proofs.are_different.Statement.{statement}
-use Rattle.modes.proofs.are_different.Tie as tie
+-- `sound::are_different` meets its contract.
+use Rattle.sound.specs.Sound.Differ.{differ-is}
+use Rattle.sound.proofs.are_different.Statement.{statement}
+use Rattle.sound.proofs.are_different.Tie as tie
 
 idx-requires : tie.Need-idx-requires
 idx-requires c κs = tt

@@ -6,7 +6,7 @@ use lib.Dec.{eqb}
 use Rattle.kinds.specs.declared.mode.GovernorMode.{GovernorMode}
 use Rattle.kinds.specs.declared.mode.GovernorMode.the-variants.{Balanced, ReadProtect, WriteEmergency}
 use Rattle.kinds.specs.Numbers.{modeNumber}
-use Rattle.modes.specs.Mode.{differ}
+use Rattle.sound.specs.Sound.{differ}
 
 pub differ-is : (a b : GovernorMode) → not (eqb (modeNumber a) (modeNumber b)) ≡ differ a b
 differ-is Balanced Balanced = refl

@@ -1,8 +1,8 @@
--- `recording::next_log` meets its contract.
+-- `next_log::next_log` meets its contract.
 use borrow.Author.Tests.{lt-ltb, le-ltb}
 use borrow.Author.Needs.{needs}
-use Rattle.recording.proofs.next_log.Statement.{statement}
-use Rattle.recording.proofs.next_log.Tie as tie
+use Rattle.next_log.proofs.next_log.Statement.{statement}
+use Rattle.next_log.proofs.next_log.Tie as tie
 
 next-sequence-requires : tie.Need-next-sequence-requires
 next-sequence-requires c κs = tt

@@ -1,8 +1,8 @@
--- `recording::next_place` meets its contract.
-use Rattle.recording.specs.Recording.{nextPlace}
+-- `next_log::next_place` meets its contract.
+use Rattle.next_log.specs.Next.{nextPlace}
 use borrow.Author.Tests.{lt-ltb, le-ltb}
-use Rattle.recording.proofs.next_place.Statement.{statement}
-use Rattle.recording.proofs.next_place.Tie as tie
+use Rattle.next_log.proofs.next_place.Statement.{statement}
+use Rattle.next_log.proofs.next_place.Tie as tie
 
 kept-place-requires : tie.Need-kept-place-requires
 kept-place-requires c κs = tt

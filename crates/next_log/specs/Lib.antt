@@ -1,0 +1,2 @@
+-- The log after one more decision.
+pub mod Next

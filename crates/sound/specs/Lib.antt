@@ -1,0 +1,2 @@
+-- Which states are sound.
+pub mod Sound

@@ -1,0 +1,2 @@
+-- What a sample is by its thresholds.
+pub mod Thresholds
