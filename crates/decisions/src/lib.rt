@@ -98,15 +98,12 @@ fn chosen_good(kind: u64, level: u64, length: u64) -> bool
     ensures { λ r. ⌜ r ≡ chosenGood kind level length ⌝ }
 {
     if kind < 2 {
-        return level == 0 && length == 0;
+        return (level == 0) & (length == 0);
     }
     if kind == 2 {
         return level <= 0xffff_ffff;
     }
-    if kind == 3 {
-        return level <= 0xffff_ffff && length == 0;
-    }
-    false
+    (kind == 3) & ((level <= 0xffff_ffff) & (length == 0))
 }
 
 // The chosen kind that a candidate's kind, level and batch length say; none where they say no kind.
@@ -125,13 +122,7 @@ pub fn is_decision(words: &[u64]) -> bool
     if words.len() != DECISION_WIDTH {
         return false;
     }
-    if 3 < words[4] {
-        return false;
-    }
-    if 3 < words[5] {
-        return false;
-    }
-    chosen_good(words[7], words[8], words[9])
+    (words[4] <= 3) & ((words[5] <= 3) & chosen_good(words[7], words[8], words[9]))
 }
 
 // Three floats by their bits, one to each pressure, from a word on.

@@ -37,7 +37,7 @@ of-bits-requires-3 : tie.Need-of-bits-requires-3
 of-bits-requires-3 c κs = tt
 
 returns : tie.Need-returns
-returns c = cc
+returns c = rw (c .of-bits3 .ensures, c .before .before .of-bits2 .ensures, c .before .before .before .before .of-bits .ensures)
 
 pub floats-at-spec : {M : Type 1} → statement M
 floats-at-spec =

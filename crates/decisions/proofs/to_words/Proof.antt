@@ -1,8 +1,21 @@
 -- `decisions::to_words` meets its contract.
+use mathlib.Core.Path.{_≡_}
+use mathlib.Core.List.{[], _∷_}
+use Prim.Native.Nat.{ℕ}
+use lib.Ieee.{binary64, toBits}
+use Rattle.kinds.specs.Numbers.{dominantNumber, tierNumber, kindNumber, kindLevel, kindLength}
+use Rattle.decisions.specs.declared.SchedulingDecision.{SchedulingDecision}
 use Rattle.decisions.specs.Decision.{decisionWords}
-use borrow.Author.Needs.{needs}
 use Rattle.decisions.proofs.to_words.Statement.{statement}
 use Rattle.decisions.proofs.to_words.Tie as tie
+
+-- by the words that are worked out apart
+in-parts : (d : SchedulingDecision) {a b c e f g h i j k l : ℕ}
+    → a ≡ toBits binary64 (d .pressure .l0) → b ≡ toBits binary64 (d .pressure .«deep_debt») → c ≡ toBits binary64 (d .pressure .read) → e ≡ dominantNumber (d .dominant) → f ≡ tierNumber (d .tier)
+    → g ≡ kindNumber (d .chosen) → h ≡ kindLevel (d .chosen) → i ≡ kindLength (d .chosen) → j ≡ toBits binary64 (d .«l0_relief») → k ≡ toBits binary64 (d .«debt_relief») → l ≡ toBits binary64 (d .«read_relief»)
+    → d .sequence ∷ a ∷ b ∷ c ∷ e ∷ f ∷ d .«candidates_considered» ∷ g ∷ h ∷ i ∷ d .«predicted_rewrite_bytes» ∷ j ∷ k ∷ l ∷ [] ≡ decisionWords d
+unfolding decisionWords
+in-parts d a b c e f g h i j k l = rw (a, b, c, e, f, g, h, i, j, k, l)
 
 to-bits-requires : tie.Need-to-bits-requires
 to-bits-requires c κs = tt
@@ -14,13 +27,13 @@ to-bits-requires-3 : tie.Need-to-bits-requires-3
 to-bits-requires-3 c κs = tt
 
 number-requires : tie.Need-number-requires
-number-requires c κs = search needs
+number-requires c κs = tt
 
 number-requires-2 : tie.Need-number-requires-2
-number-requires-2 c κs = search needs
+number-requires-2 c κs = tt
 
 number-requires-3 : tie.Need-number-requires-3
-number-requires-3 c κs = search needs
+number-requires-3 c κs = tt
 
 level-requires : tie.Need-level-requires
 level-requires c κs = tt
@@ -38,8 +51,8 @@ to-bits-requires-6 : tie.Need-to-bits-requires-6
 to-bits-requires-6 c κs = tt
 
 returns : tie.Need-returns
-unfolding decisionWords
-returns c = cc
+returns c =
+    in-parts (c .before .before .before .before .before .before .before .before .before .before .before .before .args .d) (c .before .before .before .before .before .before .before .before .before .before .to-bits .ensures) (c .before .before .before .before .before .before .before .before .before .to-bits2 .ensures) (c .before .before .before .before .before .before .before .before .to-bits3 .ensures) (c .before .before .before .before .before .before .before .number .ensures) (c .before .before .before .before .before .before .number2 .ensures) (c .before .before .before .before .before .number3 .ensures) (c .before .before .before .before .level .ensures) (c .before .before .before .batch-len .ensures) (c .before .before .to-bits4 .ensures) (c .before .to-bits5 .ensures) (c .to-bits6 .ensures)
 
 pub to-words-spec : {M : Type 1} → statement M
 to-words-spec =

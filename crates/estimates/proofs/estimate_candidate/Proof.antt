@@ -1,12 +1,7 @@
 -- `estimates::estimate_candidate` meets its contract.
-use Rattle.estimates.specs.Estimate.Tally.{estimate-l0, estimate-level}
-use Rattle.estimates.specs.Estimate.Members.{level-bytes}
-use Rattle.reliefs.specs.Reliefs.{atLevel, bytesOf, relief-exact}
-use Rattle.records.specs.Tables.{tablesOf}
+use Rattle.estimates.specs.Estimate.Tally.{own-short, estimate-l0, estimate-level}
+use Rattle.records.specs.Tables.{tablesOf, entriesOf}
 use denote.Ref.{now}
-use Prim.Native.Nat.{_+_, _-_, _^_, _≤_}
-use mathlib.Core.Path.{_≡_}
-use native.Mathlib.Omega.{arith}
 use borrow.Author.Needs.{needs}
 use Rattle.estimates.proofs.estimate_candidate.Statement.{statement}
 use Rattle.estimates.proofs.estimate_candidate.Tie as tie
@@ -27,7 +22,7 @@ part-own-end : tie.Need-part-own-end
 part-own-end c = search needs
 
 tally-numbers-requires : tie.Need-tally-numbers-requires
-tally-numbers-requires c κs = search needs
+tally-numbers-requires c κs = let s = c .before .before .before .before .before .before in (s .pre .small, own-short (now (s .args .numbers)) (s .args .c) (s .pre .short))
 
 add-t16 : tie.Need-add-t16
 add-t16 c = search needs
@@ -36,15 +31,13 @@ saturating-sub-requires : tie.Need-saturating-sub-requires
 saturating-sub-requires c κs = tt
 
 returns : tie.Need-returns
-returns c = let a = c .before .before .before .before .before .before .before .before .before .args in
-    let e : a .c .start + a .c .count - a .c .start ≡ a .c .count = omega arith in
-    rw (c .saturating-sub .ensures) (estimate-l0 _ _ _ (now (a .numbers)) (a .c) _ (c .before .before .before .if1 .taken) (rw e at (c .before .before .tally-numbers .ensures .0)))
+returns c = let a = c .before .before .before .before .before .before .before .before .before .args in estimate-l0 (tablesOf (now (a .tables))) (a .next) (entriesOf (now (a .over))) (now (a .numbers)) (a .c) (c .before .before .before .if1 .taken) (c .before .before .tally-numbers .ensures .0) (c .saturating-sub .ensures)
 
 tally-numbers-requires-2 : tie.Need-tally-numbers-requires-2
-tally-numbers-requires-2 c κs = search needs
+tally-numbers-requires-2 c κs = let s = c .before .before .before .before .before .before in (s .pre .small, own-short (now (s .args .numbers)) (s .args .c) (s .pre .short))
 
 rewrite-requires : tie.Need-rewrite-requires
-rewrite-requires c κs = search needs
+rewrite-requires c κs = c .tally-numbers2 .ensures .1
 
 saturating-sub-requires-2 : tie.Need-saturating-sub-requires-2
 saturating-sub-requires-2 c κs = tt
@@ -53,11 +46,8 @@ debt-relief-requires : tie.Need-debt-relief-requires
 debt-relief-requires c κs = tt
 
 returns-2 : tie.Need-returns-2
-returns-2 c = let a = c .before .before .before .before .before .before .before .before .before .before .args in
-    let p = c .before .before .before .before .before .before .before .before .before .before .pre in
-    let fits : bytesOf (atLevel (a .c .level) (tablesOf (now (a .tables)))) ≤ 2 ^ 64 - 1 = omega (arith, level-bytes _ (a .c .level) (p .small) (p .few)) in
-    let e : a .c .start + a .c .count - a .c .start ≡ a .c .count = omega arith in
-    rw (c .before .saturating-sub2 .ensures, c .before .before .rewrite .ensures, c .debt-relief .ensures, relief-exact _ _ _ _ fits) (estimate-level _ _ _ (now (a .numbers)) (a .c) _ (c .before .before .before .before .if1 .left) (rw e at (c .before .before .before .tally-numbers2 .ensures .0)))
+returns-2 c = let s = c .before .before .before .before .before .before .before .before .before .before in let a = s .args in
+    estimate-level (tablesOf (now (a .tables))) (a .next) (entriesOf (now (a .over))) (now (a .numbers)) (a .c) (s .pre .small) (s .pre .few) (c .before .before .before .before .if1 .left) (c .before .before .before .tally-numbers2 .ensures .0) (c .before .before .rewrite .ensures) (c .before .saturating-sub2 .ensures) (c .debt-relief .ensures)
 
 pub estimate-candidate-spec : {M : Type 1} → statement M
 estimate-candidate-spec =

@@ -1,7 +1,5 @@
 -- `estimates::estimate_candidates` meets its contract.
-use Rattle.estimates.specs.Estimate.Accepted.{accepted, all-written}
-use Rattle.estimates.specs.Estimate.Call.{estimatedOf}
-use borrow.Author.Tests.{eq-eqb, ne-eqb}
+use Rattle.estimates.specs.Estimate.Accepted.{accepted, when-refused, when-accepted}
 use mathlib.Core.Path.{sym, _∙_}
 use borrow.Author.Needs.{needs}
 use Rattle.estimates.proofs.estimate_candidates.Statement.{statement}
@@ -11,8 +9,7 @@ estimate-fault-requires : tie.Need-estimate-fault-requires
 estimate-fault-requires c κs = tt
 
 returns : tie.Need-returns
-unfolding estimatedOf
-returns c = let f = c .before .estimate-fault .ensures in let e = ne-eqb _ _ (c .if1 .taken) in (rw (← f, e), rw (← f, e))
+returns c = when-refused _ _ (c .before .estimate-fault .ensures) (c .if1 .taken)
 
 write-estimates-requires : tie.Need-write-estimates-requires
 write-estimates-requires c κs = accepted _ _ (sym (c .before .before .estimate-fault .ensures) ∙ c .before .if1 .left)
@@ -21,9 +18,7 @@ same-length : tie.Need-same-length
 same-length c = search needs
 
 returns-2 : tie.Need-returns-2
-unfolding estimatedOf
-returns-2 c = let f = c .before .before .before .before .before .estimate-fault .ensures in let z = sym f ∙ c .before .before .before .before .if1 .left in let e = eq-eqb _ _ (c .before .before .before .before .if1 .left) in
-    (rw (← f, e, c .before .before .write-estimates .ensures .0), rw (← f, e) (c .before .before .write-estimates .ensures .1 ∙ all-written _ _ (accepted _ _ z)))
+returns-2 c = when-accepted _ _ (c .before .before .before .before .before .estimate-fault .ensures) (c .before .before .before .before .if1 .left) (c .before .before .write-estimates .ensures)
 
 pub estimate-candidates-spec : {M : Type 1} → statement M
 estimate-candidates-spec =

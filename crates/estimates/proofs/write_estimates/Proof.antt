@@ -10,7 +10,12 @@ use denote.Ref.{now}
 use lib.ListN.{length, drop}
 use Rattle.candidate_records.specs.declared.Candidate.{Candidate}
 use mathlib.Core.List.{List}
-use Prim.Native.Nat.{ℕ, _*_, _-_, _≤_}
+use Prim.Native.Nat.{ℕ, _+_, _*_, _-_, _≤_, _<_}
+use mathlib.Core.Path.{_≡_}
+use lib.Seq.{sets}
+use Rattle.records.specs.declared.tables.Table.{Table}
+use Rattle.records.specs.declared.tables.Entry.{Entry}
+use Rattle.records.specs.declared.candidate.CandidateEstimate.{CandidateEstimate}
 use borrow.Author.Needs.{needs}
 use native.Mathlib.Omega.{arith}
 use Rattle.estimates.proofs.write_estimates.Statement.{statement}
@@ -21,6 +26,17 @@ Inv-loop tables next over candidates numbers estimates₀ n i₀ estimates i = (
 
 abbrev μ-loop : tie.MeasureT-loop
 μ-loop tables next over candidates numbers estimates₀ n i₀ estimates i = length (candidatesOf candidates) - i
+
+-- one candidate's words more
+module _ (ts : List Table) (next : ℕ) (es : List Entry) (ns : List ℕ) (cs : List Candidate) (i : ℕ) where
+  words : Candidate → List ℕ
+  words k = nineWords (estimateOf ts next es ns k)
+
+  one-more : (old whole out new ws : List ℕ) (e : CandidateEstimate) (k : Candidate) → Filling old 0 whole out (i * 9) (estimateWordsOf ts next es ns (drop i cs)) → i < length cs
+      → k ≡ candidateAt cs i → e ≡ estimateOf ts next es ns k → ws ≡ nineWords e → new ≡ sets out (i * 9) ws → Filling old 0 whole new ((i + 1) * 9) (estimateWordsOf ts next es ns (drop (i + 1) cs))
+  unfolding words
+  one-more old whole out new ws e k f h x y z w =
+      fill-part old 0 whole out (i * 9) (words (candidateAt cs i)) _ new _ (rw (flat-more words cs i noCandidate h) at f) (record { ends = omega arith; stands = rw (w, z, y, x) })
 
 candidate-count-requires : tie.Need-candidate-count-requires Inv-loop μ-loop
 candidate-count-requires c κs = tt
@@ -53,10 +69,8 @@ loop-less : tie.Need-loop-less Inv-loop μ-loop
 loop-less c = search needs
 
 loop-again : tie.Need-loop-again Inv-loop μ-loop
-loop-again c = let a = c .before .before .before .before .before .before .before .before .before .before .before .before .before .before .before .before .args in let l = c .before .before .before .before .before .before .before .before .before .loop in let cs = candidatesOf (now (a .candidates)) in
-    let words : Candidate → List ℕ = λ k. nineWords (estimateOf (tablesOf (now (a .tables))) (a .next) (entriesOf (now (a .over))) (now (a .numbers)) k) in
-    let one = words (candidateAt cs (l .i)) in
-    (omega arith, fill-part _ _ _ _ _ one _ _ _ (rw (flat-more words cs (l .i) noCandidate (omega arith)) at (l .inv .1)) (record { ends = omega arith; stands = rw (c .before .before .put-words .ensures, c .before .before .before .before .before .nine-words .ensures, c .before .before .before .before .before .before .estimate-candidate .ensures, c .before .before .before .before .before .before .before .candidate-at .ensures) }))
+loop-again c = let a = c .before .before .before .before .before .before .before .before .before .before .before .before .before .before .before .before .args in let l = c .before .before .before .before .before .before .before .before .before .loop in
+    (omega arith, one-more (tablesOf (now (a .tables))) (a .next) (entriesOf (now (a .over))) (now (a .numbers)) (candidatesOf (now (a .candidates))) (l .i) _ _ _ _ _ _ _ (l .inv .1) (omega arith) (c .before .before .before .before .before .before .before .candidate-at .ensures) (c .before .before .before .before .before .before .estimate-candidate .ensures) (c .before .before .before .before .before .nine-words .ensures) (c .before .before .put-words .ensures))
 
 same-length : tie.Need-same-length Inv-loop μ-loop
 same-length c = search needs

@@ -1,5 +1,5 @@
 -- What an accepted call of `estimate_candidates` may rely on.
-use mathlib.Core.Path.{_≡_, refl, sym}
+use mathlib.Core.Path.{_≡_, refl, sym, _∙_}
 use mathlib.Core.Bool.{Bool, false, not, _||_}
 use mathlib.Core.List.{List, _++_}
 use Prim.Native.Nat.{ℕ, _+_, _*_, _%_, _^_, _≤_, _<_}
@@ -7,7 +7,7 @@ use native.Mathlib.Omega.{arith}
 use lib.ListN.{length, drop}
 use lib.Seq.{sets}
 use lib.Dec.{eqb}
-use borrow.Author.Tests.{ltb-false, eqb-true}
+use borrow.Author.Tests.{ltb-false, eqb-true, eq-eqb, ne-eqb}
 use Rattle.lists.specs.Any.{anyOf, any-no, getD-in}
 use Rattle.faults.specs.Tables.{tableBroken, tooManyTables, brokenTables, tooManyEntries, brokenEntries}
 use Rattle.records.specs.declared.tables.Table.{Table}
@@ -19,7 +19,7 @@ use Rattle.candidate_faults.specs.Candidates.{tooManyCandidates, tooManyNumbers
 use Rattle.estimates.specs.declared.Estimated.{Estimated}
 use Rattle.estimates.specs.Estimate.{estimateOf, nineWords}
 use Rattle.estimate_faults.specs.Faults.{EstimateInput, estimateChecks, estimateFault}
-use Rattle.estimates.specs.Estimate.Call.{estimateWords, estimatedOf}
+use Rattle.estimates.specs.Estimate.Call.{estimateWords, estimatedOf, estimatesOut}
 use Rattle.lists.specs.Flat.{flat-length}
 use Rattle.refusals.specs.Refusals.{none}
 use Rattle.refusals.specs.Checks.{none-found}
@@ -83,3 +83,17 @@ words-long q = flat-length (λ c. nineWords (estimateOf (tablesOf (q .tables)) (
 -- the words have room, so they stand at the front and the rest is as it was
 pub all-written : (q : EstimateInput) (old : List ℕ) → Accepted q (length old) → sets old 0 (estimateWords q) ≡ estimateWords q ++ drop (length (estimateWords q)) old
 all-written q old a = sets-front (estimateWords q) old (omega (arith, a .fits, words-long q))
+
+-- ---- the answer and the buffer
+
+module _ (q : EstimateInput) (old : List ℕ) {fault : ℕ} (e : fault ≡ estimateFault q (length old)) where
+  pub when-refused : (fault ≡ none → ⊥) → (record { refusal = fault; estimates = 0 } ≡ estimatedOf q (length old)) × (old ≡ estimatesOut q old)
+  unfolding estimatedOf
+  when-refused n = let t = ne-eqb fault none n in (rw (← e, t), rw (← e, t))
+
+  pub when-accepted : fault ≡ none → {count : ℕ} {new : List ℕ} → (count ≡ length (candidatesOf (q .candidates))) × (new ≡ sets old 0 (estimateWords q))
+      → (record { refusal = none; estimates = count } ≡ estimatedOf q (length old)) × (new ≡ estimatesOut q old)
+  unfolding estimatedOf
+  when-accepted z w =
+      let t = eq-eqb fault none z in
+      (rw (← e, t, w .0), rw (← e, t) (w .1 ∙ all-written q old (accepted q (length old) (sym e ∙ z))))

@@ -2,11 +2,12 @@
 use mathlib.Core.Path.{_≡_, refl, _∙_}
 use mathlib.Core.Bool.{Bool, true, false, not, cond}
 use mathlib.Core.List.{List, [], _∷_}
-use Prim.Native.Nat.{ℕ, _+_, _-_, _≤_, min}
+use Prim.Native.Nat.{ℕ, _+_, _-_, _^_, _≤_, min}
 use native.Mathlib.Numerals.{one-add}
 use native.Mathlib.Nat.{add-zero, zero-add, add-assoc}
 use native.Mathlib.Omega.{arith}
-use lib.ListN.{length}
+use lib.ListN.{length, take, drop, length-take}
+use lib.Ieee.{Float}
 use lib.Dec.{eqb}
 use borrow.Author.Tests.{eq-eqb, ne-eqb}
 use Rattle.lists.specs.Filter.{filterOf}
@@ -15,8 +16,9 @@ use Rattle.records.specs.declared.tables.Table.{Table}
 use Rattle.records.specs.declared.tables.Entry.{Entry}
 use Rattle.candidate_records.specs.declared.Candidate.{Candidate}
 use Rattle.estimates.specs.declared.Tally.{Tally}
-use Rattle.reliefs.specs.Reliefs.{atLevel, bytesOf, reliefOf}
+use Rattle.reliefs.specs.Reliefs.{atLevel, bytesOf, stoppedRelief, relief-exact}
 use Rattle.estimates.specs.Estimate.{matched, offLevel, oldestFrom, oldestOf, inputsOf, estimateOf}
+use Rattle.estimates.specs.Estimate.Members.{Small, level-bytes}
 
 unfoldable pub tallyOf : ℕ → ℕ → List Table → Tally
 tallyOf level next ts =
@@ -106,31 +108,43 @@ module _ (level : ℕ) (t : Tally) (x : Table) where
 
 -- ---- an estimate by its tally
 
-module _ (ts : List Table) (next : ℕ) (es : List Entry) (ns : List ℕ) (c : Candidate) (t : Tally) where
-  pub estimate-l0 : c .kind ≡ 1 → t ≡ tallyOf 0 next (matched ts (inputsOf ns c)) → record {
+-- a candidate's own numbers, as they are lent
+abbrev ownOf : List ℕ → Candidate → List ℕ
+ownOf ns c = take (c .start + c .count - c .start) (drop (c .start) ns)
+
+pub own-short : (ns : List ℕ) (c : Candidate) → c .count ≤ 1024 → length (ownOf ns c) ≤ 1024
+own-short ns c h = omega (arith, length-take (c .start + c .count - c .start) (drop (c .start) ns))
+
+own-is : (ns : List ℕ) (c : Candidate) → ownOf ns c ≡ inputsOf ns c
+own-is ns c = let e : c .start + c .count - c .start ≡ c .count = omega arith in rw e
+
+module _ (ts : List Table) (next : ℕ) (es : List Entry) (ns : List ℕ) (c : Candidate) {t : Tally} {age : ℕ} where
+  pub estimate-l0 : c .kind ≡ 1 → t ≡ tallyOf 0 next (matched ts (ownOf ns c)) → age ≡ next - t .oldest → record {
     «input_bytes» = t .input;
     «overlap_bytes» = t .overlap;
     «estimated_rewrite_bytes» = t .input + t .overlap;
     «debt_relief_bytes» = t .input;
     «l0_files_removed» = t .files;
-    age = next - t .oldest;
+    age = age;
     «l0_relief» = f1;
     «debt_relief» = f0;
     «read_relief» = f1;
   } ≡ estimateOf ts next es ns c
   unfolding estimateOf tallyOf
-  estimate-l0 k e = rw (e, eq-eqb _ _ k, ne-eqb (c .kind) 3 (λ z. omega arith))
+  estimate-l0 k e a = rw (a, e, own-is ns c, eq-eqb _ _ k, ne-eqb (c .kind) 3 (λ z. omega arith))
 
-  pub estimate-level : (c .kind ≡ 1 → ⊥) → t ≡ tallyOf (c .level) next (matched ts (inputsOf ns c)) → record {
+  pub estimate-level : {rewrite : ℕ} {relief : Float} → Small ts → length ts ≤ 1024 → (c .kind ≡ 1 → ⊥) → t ≡ tallyOf (c .level) next (matched ts (ownOf ns c)) → rewrite ≡ cond (eqb (c .kind) 3) 0 (t .input + t .overlap) → age ≡ next - t .oldest → relief ≡ stoppedRelief ts es (c .level) (t .input) → record {
     «input_bytes» = t .input;
     «overlap_bytes» = t .overlap;
-    «estimated_rewrite_bytes» = cond (eqb (c .kind) 3) 0 (t .input + t .overlap);
+    «estimated_rewrite_bytes» = rewrite;
     «debt_relief_bytes» = t .input;
     «l0_files_removed» = 0;
-    age = next - t .oldest;
+    age = age;
     «l0_relief» = f0;
-    «debt_relief» = reliefOf ts es (c .level) (t .input);
+    «debt_relief» = relief;
     «read_relief» = f0;
   } ≡ estimateOf ts next es ns c
   unfolding estimateOf tallyOf
-  estimate-level k e = rw (e, ne-eqb _ _ k)
+  estimate-level small few k e w a r =
+      let fits : bytesOf (atLevel (c .level) ts) ≤ 2 ^ 64 - 1 = omega (arith, level-bytes ts (c .level) small few) in
+      rw (w, a, r, relief-exact ts es (c .level) (t .input) fits, e, own-is ns c, ne-eqb _ _ k)
