@@ -15,7 +15,7 @@ use mathlib.Core.Path.{_≡_}
 use lib.Seq.{sets}
 use Rattle.records.specs.declared.tables.Table.{Table}
 use Rattle.records.specs.declared.tables.Entry.{Entry}
-use Rattle.records.specs.declared.candidate.CandidateEstimate.{CandidateEstimate}
+use Rattle.candidate_records.specs.declared.CandidateEstimate.{CandidateEstimate}
 use borrow.Author.Needs.{needs}
 use native.Mathlib.Omega.{arith}
 use Rattle.estimates.proofs.write_estimates.Statement.{statement}
