@@ -1,28 +1,53 @@
 // Answers questions: reads standard input, and writes one line for each line of it (docs/ROWS.md).
 use rows_answers::OUT;
 use rows_state::arithmetic;
+use rows_tables::placed;
 use rows_words::shape;
 use rows_words::words;
 use rows_words::words::BYTES;
+use rows_words::words::SHORT;
 use rows_words::words::WORDS;
+use rows_words::words::word;
 
 const TEXT: usize = 1048576;
 
 // The longest question.
 const LINE: usize = 1000000;
 
-// A call's answer, by the call's number in the list of calls.
+// The number that a call of arith, records, faults or keys answers.
+fn number_of(call: u64, args: &[u64; WORDS], bytes: &[u8; BYTES]) -> u64 {
+    match call {
+        0..=8 => arithmetic::value_of(call, word(args, 0), word(args, 1)),
+        9..=15 => rows_tables::count_of(call, words::part(args, 0)),
+        _ => rows_keys::number_of(call, args, bytes),
+    }
+}
+
+// A short answer, by the call's number in the list of calls.
+fn short_answer(call: u64, args: &[u64; WORDS], bytes: &[u8; BYTES]) -> [u64; SHORT] {
+    match call {
+        0..=18 => words::told(&[number_of(call, args, bytes)], &[]),
+        24 | 25 => rows_tables::record(call, args),
+        30..=45 => rows_governed::answer(call, args),
+        49..=55 => rows_log::answer(call, args),
+        56 | 57 => rows_replay::answer(call, args, bytes),
+        _ => rows_merges::answer(call, args),
+    }
+}
+
+// A call's answer: one that may be long is written where it is told.
 fn put_answer(call: u64, args: &[u64; WORDS], bytes: &[u8; BYTES], told: &mut [u64; WORDS]) {
     match call {
-        0..=8 => told[0] = arithmetic::value_of(call, args[0], args[1]),
-        9..=28 => rows_tables::put_answer(call, args, bytes, told),
+        19..=23 => words::put_bytes(told, 0, rows_keys::key_of(call, args, bytes)),
+        26..=28 => placed::put_answer(call, args, bytes, told),
         29 => rows_candidates::put_answer(args, bytes, told),
-        30..=45 => rows_governed::put_answer(call, args, told),
-        46..=48 | 61 => rows_merges::put_answer(call, args, told),
-        49..=55 => rows_log::put_answer(call, args, told),
-        56..=59 => rows_replay::put_answer(call, args, bytes, told),
-        _ => {
+        46 => rows_merges::put_estimates(args, told),
+        58 | 59 => rows_replay::put_answer(call, args, bytes, told),
+        60 => {
             words::put_all(told, 0, args);
+        }
+        _ => {
+            words::put_all(told, 0, &short_answer(call, args, bytes));
         }
     }
 }
@@ -70,22 +95,17 @@ fn answer_lines(
     start
 }
 
-// Moves what stands from a place on to the front, and tells where it then ends.
+// Moves what stands from a place up to an end to the front, and tells where it then ends. Of a line that is too long only so much is kept that it still is.
 fn shift(text: &mut [u8; TEXT], from: usize, end: usize) -> usize {
-    let mut to = 0;
-    let mut i = from;
-    while i < end {
-        // Of a line that is too long only so much is kept that it still is.
-        if LINE < to {
-            return to;
-        }
-        if i < TEXT {
-            text[to] = text[i];
-        }
-        to += 1;
+    let last = words::least(end, TEXT);
+    let first = words::least(from, last);
+    let kept = words::least(last - first, LINE + 1);
+    let mut i = 0;
+    while i < kept {
+        text[i] = text[first + i];
         i += 1;
     }
-    to
+    kept
 }
 
 // Answers what stands before an end; what is kept of it is then at the front.

@@ -1,5 +1,4 @@
 // What is written: bytes into a lent buffer, which goes to standard output when it is full, but for its last byte. A space stands behind each number and list, until the next byte takes its place or follows it.
-ghost use Prim.Native.Nat.{_≤_, _<_};
 use rows_words::shape;
 use rows_words::words;
 use rows_words::words::WORDS;
@@ -11,9 +10,7 @@ pub fn flush(out: &[u8], end: usize) {
     io::write_all(1, words::cut(out, 0, end));
 }
 
-fn byte(out: &mut [u8; OUT], at: usize, b: u8) -> usize
-    ensures { λ r. ⌜ r ≤ 65536 ⌝ }
-{
+fn byte(out: &mut [u8; OUT], at: usize, b: u8) -> usize {
     if at < OUT {
         out[at] = b;
         return at + 1;
@@ -24,14 +21,6 @@ fn byte(out: &mut [u8; OUT], at: usize, b: u8) -> usize
     2
 }
 
-// The last byte is replaced.
-fn close(out: &mut [u8; OUT], at: usize, b: u8) -> usize {
-    if 0 < at {
-        return byte(out, at - 1, b);
-    }
-    0
-}
-
 fn text(out: &mut [u8; OUT], at: usize, s: &[u8]) -> usize {
     let mut to = at;
     let mut i = 0;
@@ -40,6 +29,11 @@ fn text(out: &mut [u8; OUT], at: usize, s: &[u8]) -> usize {
         i += 1;
     }
     to
+}
+
+// The last byte is replaced.
+fn close(out: &mut [u8; OUT], at: usize, s: &[u8]) -> usize {
+    text(out, if 0 < at { at - 1 } else { 0 }, s)
 }
 
 fn number(out: &mut [u8; OUT], at: usize, n: u64) -> usize {
@@ -64,9 +58,8 @@ fn list(out: &mut [u8; OUT], at: usize, list: &[u64]) -> usize {
         return text(out, at, b"[] ");
     }
     let from = byte(out, at, b'[');
-    let last = numbers(out, from, list);
-    let to = close(out, last, b']');
-    byte(out, to, b' ')
+    let to = numbers(out, from, list);
+    close(out, to, b"] ")
 }
 
 // The number (kind 0) or the list (kind 1) at a place.
@@ -93,23 +86,36 @@ fn fault(out: &mut [u8; OUT], at: usize, fault: u64) -> usize {
     }
 }
 
+// How many parts a shape has.
+fn parts(shape: u64) -> u32 {
+    let zeros = u64::leading_zeros(shape);
+    if zeros < 63 {
+        return 63 - zeros;
+    }
+    0
+}
+
+// The binary digit of a shape at a place.
+fn kind_at(shape: u64, place: u32) -> u64 {
+    if place < 64 {
+        return (shape >> place) % 2;
+    }
+    0
+}
+
 // A line of the words of a shape, as rows_questions reads them, or of a fault.
 pub fn line(out: &mut [u8; OUT], at: usize, shape: u64, words: &[u64; WORDS]) -> usize {
     if shape::FAULTS <= shape {
         return fault(out, at, shape);
     }
-    let zeros = u64::leading_zeros(shape);
-    if 62 < zeros {
-        return at;
-    }
-    let mut left = 63 - zeros;
+    let mut left = parts(shape);
     let mut place = 0;
     let mut to = at;
     while 0 < left {
         left -= 1;
-        let kind = (shape >> left) % 2;
+        let kind = kind_at(shape, left);
         to = argument(out, to, kind, words, place);
         place = words::after(words, place, kind);
     }
-    close(out, to, b'\n')
+    close(out, to, b"\n")
 }

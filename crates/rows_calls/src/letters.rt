@@ -4,13 +4,14 @@ use rows_words::words::BYTES;
 use rows_words::words::NO_ROOM;
 use rows_words::words::WORDS;
 
-// A number of a letter: a flag, a mode, a kind, a tier, 32 bits, a log's words, a run's decisions, a text's bytes, or any.
+// A number of a letter: a flag, a mode, a kind, a tier, a byte, 32 bits, a log's words, a run's decisions, a text's bytes, or any.
 fn is_number(letter: u8, n: u64) -> bool {
     match letter {
         b'f' => n <= 1,
         b'm' => n <= 2,
         b'k' => 1 <= n && n <= 3,
         b's' => n <= 3,
+        b'b' => n <= 255,
         b'u' => n <= 0xffff_ffff,
         b'c' => n <= 57345,
         b'r' => n <= 1000000,
@@ -19,42 +20,68 @@ fn is_number(letter: u8, n: u64) -> bool {
     }
 }
 
-// The list has a number for each letter.
+// Each number of the list is as its letter says, from the last letter on as that one.
 fn are_numbers(letters: &[u8], list: &[u64]) -> bool {
-    if list.len() != letters.len() {
-        return false;
-    }
+    let last = std::num::wrapping_sub_usize(letters.len(), 1);
     let mut i = 0;
-    while i < letters.len() {
-        if !is_number(letters[i], list[i]) {
-            return false;
+    while i < list.len() {
+        let letter = words::byte(letters, words::least(i, last));
+        if !is_number(letter, list[i]) {
+            break;
         }
         i += 1;
     }
-    true
+    i == list.len()
 }
 
-// A list of a letter: one to write to, a state, a decision, or any words.
+// A list of a letter: one to write to, a state, a decision, bytes, or any words.
 fn is_list(letter: u8, list: &[u64]) -> bool {
     match letter {
-        b'O' | b'R' => list.len() <= 65536,
-        b'S' => are_numbers(b"mnnnnnnnfuuuuunnnnnnnnnnnnn", list),
+        b'O' => list.len() <= 65536,
+        b'S' => list.len() == 27 && are_numbers(b"mnnnnnnnfuuuuun", list),
         b'D' => decisions::is_decision(list),
+        b'B' | b'T' | b'R' => are_numbers(b"b", list),
         _ => true,
     }
 }
 
-// Where the bytes end after a list of a letter; NO_ROOM where it is none. All byte lists of a question end before a place: a replay's text, or the room that it is lent, before another.
+// Where bytes that begin at a place end at most: all byte lists of a question before a place; a replay's text before another, and the room that it is lent behind as many; 0 for other lists.
+fn limit(letter: u8, at: usize) -> usize {
+    match letter {
+        b'B' => 65536,
+        b'T' => 65537,
+        b'R' => std::num::wrapping_add_usize(at, 65536),
+        _ => 0,
+    }
+}
+
+// Where the bytes end after a list of a letter; NO_ROOM where it is none.
 fn laid(letter: u8, list: &[u64], bytes: &mut [u8; BYTES], at: usize) -> usize {
     if !is_list(letter, list) {
         return NO_ROOM;
     }
-    match letter {
-        b'B' => words::lay_bytes(bytes, at, list, 65536),
-        b'T' => words::lay_bytes(bytes, at, list, 65537),
-        b'R' => words::lay_bytes(bytes, at, list, BYTES),
-        _ => at,
+    let end = limit(letter, at);
+    if end == 0 {
+        return at;
     }
+    words::lay_bytes(bytes, at, list, end)
+}
+
+// The same after the argument at a place.
+fn argument(
+    letter: u8,
+    args: &[u64; WORDS],
+    place: usize,
+    bytes: &mut [u8; BYTES],
+    at: usize,
+) -> usize {
+    if letter < b'a' {
+        return laid(letter, words::part(args, place), bytes, at);
+    }
+    if is_number(letter, words::word(args, place)) {
+        return at;
+    }
+    NO_ROOM
 }
 
 // The arguments, of the right shape, are as the letters say; the lists of bytes then stand one behind the other.
@@ -64,19 +91,12 @@ pub(crate) fn fits(letters: &[u8], args: &[u64; WORDS], bytes: &mut [u8; BYTES])
     let mut i = 0;
     while i < letters.len() {
         let letter = letters[i];
-        if letter < b'a' {
-            at = laid(letter, words::part(args, place), bytes, at);
-            place = words::after(args, place, 1);
-            if NO_ROOM <= at {
-                return false;
-            }
-        } else {
-            if !is_number(letter, words::word(args, place)) {
-                return false;
-            }
-            place = words::after(args, place, 0);
+        at = argument(letter, args, place, bytes, at);
+        if NO_ROOM <= at {
+            break;
         }
+        place = words::after(args, place, (letter < b'a') as u64);
         i += 1;
     }
-    true
+    at < NO_ROOM
 }

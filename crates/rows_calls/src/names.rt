@@ -1,13 +1,6 @@
-// A table of calls, a line of WIDTH bytes to each: the name, the letters of its arguments and those of its answer, with spaces behind each. A small letter stands for a number, a capital for a list.
+// A table of calls, a line to each: the name, the letters of its arguments, those of its answer and its number, with a space behind each but the last. A small letter stands for a number, a capital for a list.
 use rows_words::shape;
 use rows_words::words;
-
-pub(crate) const WIDTH: usize = 48;
-
-// Where the letters of the arguments and of the answer begin in a line.
-pub(crate) const ASKED: usize = 24;
-
-pub(crate) const TOLD: usize = 37;
 
 // The place of the line of a name; the table's end where no line has it.
 pub(crate) fn line_of(table: &[u8], name: &[u8]) -> usize {
@@ -16,22 +9,30 @@ pub(crate) fn line_of(table: &[u8], name: &[u8]) -> usize {
         if check::same(name, word_at(table, at)) {
             return at;
         }
-        if table.len() - at <= WIDTH {
+        let end = words::find(table, at, b'\n');
+        if table.len() <= end {
             break;
         }
-        at += WIDTH;
+        at = end + 1;
     }
     table.len()
 }
 
 // What stands from a place up to a space.
-fn word_at(table: &[u8], at: usize) -> &[u8] {
+pub(crate) fn word_at(table: &[u8], at: usize) -> &[u8] {
     words::cut(table, at, words::find(table, at, b' '))
 }
 
-// The letters of a column of the line at a place.
-pub(crate) fn letters(table: &[u8], at: usize, column: usize) -> &[u8] {
-    word_at(table, std::num::wrapping_add_usize(at, column))
+// The place behind the next space.
+pub(crate) fn behind(table: &[u8], at: usize) -> usize {
+    std::num::wrapping_add_usize(words::find(table, at, b' '), 1)
+}
+
+// The number of two digits at a place.
+pub(crate) fn number_at(table: &[u8], at: usize) -> u64 {
+    let tens = words::byte(table, at) as u64;
+    let ones = words::byte(table, std::num::wrapping_add_usize(at, 1)) as u64;
+    std::num::wrapping_sub_u64(tens * 10 + ones, 528)
 }
 
 // The shape that letters stand for.

@@ -1,4 +1,4 @@
-// The calls of kinds, state, pressure, governor, engine, report, lent and snapshot.
+// The calls of kinds, state, pressure, governor, engine, report and snapshot.
 mod lending;
 
 use arith::floats;
@@ -8,7 +8,9 @@ use pressure::pacing;
 use rows_state::states;
 use rows_state::states::float;
 use rows_words::words;
+use rows_words::words::SHORT;
 use rows_words::words::WORDS;
+use rows_words::words::word;
 use snapshot::SnapshotAnswer;
 use state::GovernorState;
 use state::Observed;
@@ -25,56 +27,86 @@ fn kind_of(kind: u64, level: u32, batch_len: u64) -> CandidateKind {
 
 fn sample(args: &[u64; WORDS]) -> PressureSample {
     PressureSample {
-        l0_count: args[29],
-        l0_write_stall_trigger: args[30],
+        l0_count: word(args, 29),
+        l0_write_stall_trigger: word(args, 30),
         max_level_debt_ratio: float(args, 31),
         tables_probed_per_get: float(args, 32),
-        backlog_levels: args[33],
+        backlog_levels: word(args, 33),
     }
 }
 
 fn engine_sample(args: &[u64; WORDS]) -> EngineSample {
     EngineSample {
-        l0_count: args[29],
-        l0_write_stall_trigger: args[30],
+        l0_count: word(args, 29),
+        l0_write_stall_trigger: word(args, 30),
         max_level_debt_ratio: float(args, 31),
-        backlog_levels: args[32],
+        backlog_levels: word(args, 32),
     }
 }
 
 fn read_amp(args: &[u64; WORDS]) -> ReadAmpStats {
     ReadAmpStats {
-        gets_total: args[33],
-        resolved_in_memtable: args[34],
-        resolved_in_immutable: args[35],
-        l0_tables_probed: args[36],
-        leveled_tables_probed: args[37],
+        gets_total: word(args, 33),
+        resolved_in_memtable: word(args, 34),
+        resolved_in_immutable: word(args, 35),
+        l0_tables_probed: word(args, 36),
+        leveled_tables_probed: word(args, 37),
     }
 }
 
-// The call that answers a refusal and a state.
-fn observed(call: u64, s: GovernorState, args: &[u64; WORDS]) -> Observed {
+fn kept(state: GovernorState) -> Observed {
+    Observed { refusal: 0, state }
+}
+
+// The call that answers a state, and a refusal or none.
+fn observed(call: u64, args: &[u64; WORDS]) -> Observed {
+    let s = states::state(args);
+    let n = word(args, 28);
+    let m = word(args, 29);
     match call {
-        39 => governor::observe(s, args[28], sample(args)),
-        40 => engine::observe_engine(s, args[28], engine_sample(args), read_amp(args)),
-        41 => report::with_trivial_move(s, args[28]),
-        42 => report::with_outcome(s, args[28], args[29]),
-        43 => lending::moved(s, args[28]),
-        _ => lending::outcome(s, args[28], args[29]),
+        36 => kept(state::fresh(word(args, 0))),
+        37 => kept(s.set_focus(states::focus_at(args, 28))),
+        38 => {
+            let kind = kind_of(n, states::small(args, 29), word(args, 30));
+            kept(report::record_candidate_chosen(s, kind))
+        }
+        39 => governor::observe(s, n, sample(args)),
+        40 => engine::observe_engine(s, n, engine_sample(args), read_amp(args)),
+        41 => report::with_trivial_move(s, n),
+        42 => report::with_outcome(s, n, m),
+        43 => lending::moved(s, n),
+        _ => lending::outcome(s, n, m),
     }
 }
 
-fn put_snapshot(answer: SnapshotAnswer, out: &mut [u64; WORDS]) {
-    match answer {
+// The call that answers a number or three.
+fn numbers(call: u64, args: &[u64; WORDS]) -> [u64; 3] {
+    let v = states::vector_at(args, 0);
+    let s = states::state(args);
+    match call {
+        30 => [
+            pacing::pacing_delay(states::mode_of(word(args, 0)), float(args, 1)),
+            0,
+            0,
+        ],
+        31 => [v.dominant().number(), 0, 0],
+        32 => [s.mode().idx(), 0, 0],
+        33 => [floats::to_bits(s.pressure()), 0, 0],
+        34 => states::vector_words(s.pressure_vector()),
+        _ => states::focus_words(s.focus()),
+    }
+}
+
+fn snapshot_told(args: &[u64; WORDS]) -> [u64; SHORT] {
+    match snapshot::snapshot(states::state(args), word(args, 28)) {
         SnapshotAnswer::Stats(g) => {
-            let v = states::vector_words(g.pressure_vector);
             let mode = g.mode;
             let list = [
                 mode.idx(),
                 floats::to_bits(g.pressure),
-                v[0],
-                v[1],
-                v[2],
+                floats::to_bits(g.pressure_vector.l0),
+                floats::to_bits(g.pressure_vector.deep_debt),
+                floats::to_bits(g.pressure_vector.read),
                 g.mode_switches,
                 g.time_balanced_ms,
                 g.time_read_protect_ms,
@@ -85,49 +117,23 @@ fn put_snapshot(answer: SnapshotAnswer, out: &mut [u64; WORDS]) {
                 g.predicted_actual_samples,
                 floats::to_bits(g.predicted_actual_mean_abs_pct_error),
             ];
-            out[0] = 0;
-            words::put_list(out, 1, &list);
+            words::told(&[0], &list)
         }
-        SnapshotAnswer::Refused(refusal) => {
-            out[0] = refusal;
-            out[1] = 0;
-        }
+        SnapshotAnswer::Refused(refusal) => words::told(&[refusal], &[]),
     }
 }
 
-// The call that is asked of a state.
-fn put_asked(call: u64, s: GovernorState, args: &[u64; WORDS], out: &mut [u64; WORDS]) {
-    match call {
-        32 => out[0] = s.mode().idx(),
-        33 => out[0] = floats::to_bits(s.pressure()),
-        34 => {
-            words::put_all(out, 0, &states::vector_words(s.pressure_vector()));
-        }
-        35 => {
-            words::put_all(out, 0, &states::focus_words(s.focus()));
-        }
-        37 => {
-            let focus = states::focus_at(args, 28);
-            states::put_state(out, 0, s.set_focus(focus));
-        }
-        38 => {
-            let kind = kind_of(args[28], states::small(args, 29), args[30]);
-            states::put_state(out, 0, report::record_candidate_chosen(s, kind));
-        }
-        45 => put_snapshot(snapshot::snapshot(s, args[28]), out),
-        _ => {
-            let o = observed(call, s, args);
-            out[0] = o.refusal;
-            states::put_state(out, 1, o.state);
-        }
-    }
+fn state_told(call: u64, args: &[u64; WORDS]) -> [u64; SHORT] {
+    let o = observed(call, args);
+    let head = [o.refusal];
+    let n = words::least((38 < call) as usize, 1);
+    words::told(&head[0..n], &states::state_words(o.state))
 }
 
-pub fn put_answer(call: u64, args: &[u64; WORDS], out: &mut [u64; WORDS]) {
+pub fn answer(call: u64, args: &[u64; WORDS]) -> [u64; SHORT] {
     match call {
-        30 => out[0] = pacing::pacing_delay(states::mode_of(args[0]), float(args, 1)),
-        31 => out[0] = states::vector_at(args, 0).dominant().number(),
-        36 => states::put_state(out, 0, state::fresh(args[0])),
-        _ => put_asked(call, states::state(args), args, out),
+        30..=35 => words::told(&numbers(call, args), &[]),
+        45 => snapshot_told(args),
+        _ => state_told(call, args),
     }
 }

@@ -1,37 +1,41 @@
 // The calls of decisions and of their log, whose words come from a seed.
+ghost use Prim.Native.Nat.{_≤_};
 use decisions::DecisionRead;
 use log::DecisionLog;
 use recording::Recorded;
+use rows_seeded::SEEDED;
 use rows_words::words;
+use rows_words::words::SHORT;
 use rows_words::words::WORDS;
-
-// The most words of a log or of what is read of it, one more than there are.
-const SEEDED: usize = 57345;
+use rows_words::words::word;
 
 fn log_at(args: &[u64; WORDS]) -> DecisionLog {
     DecisionLog {
-        first: args[0],
-        count: args[1],
-        sequence: args[2],
+        first: word(args, 0),
+        count: word(args, 1),
+        sequence: word(args, 2),
     }
 }
 
-fn put_log(out: &mut [u64; WORDS], at: usize, log: DecisionLog) {
-    words::put_all(out, at, &[log.first, log.count, log.sequence]);
+// A length that a question gives.
+fn length_at(args: &[u64; WORDS], at: usize) -> usize
+    ensures { λ r. ⌜ r ≤ 57345 ⌝ }
+{
+    words::least(word(args, at) as usize, SEEDED)
 }
 
-// A decision's words written anew go to a place, behind a 1; two zeros where they are none.
-fn put_anew(list: &[u64], out: &mut [u64; WORDS], at: usize) {
+// A decision's words written anew, for `of_words` behind a 1; zeros where they are none.
+fn anew(call: u64, list: &[u64]) -> [u64; SHORT] {
+    let head = [1];
+    let n = words::least((call == 50) as usize, 1);
     match decisions::of_words(list) {
-        DecisionRead::Decision(d) => {
-            out[0] = 1;
-            words::put_list(out, at, &decisions::to_words(d));
-        }
-        DecisionRead::None => {
-            out[0] = 0;
-            out[1] = 0;
-        }
+        DecisionRead::Decision(d) => words::told(&head[0..n], &decisions::to_words(d)),
+        DecisionRead::None => [0; SHORT],
     }
+}
+
+fn log_told(log: DecisionLog) -> [u64; SHORT] {
+    words::told(&[log.first, log.count, log.sequence], &[])
 }
 
 fn recorded(log: DecisionLog, words: &mut [u64], list: &[u64]) -> Recorded {
@@ -43,28 +47,31 @@ fn recorded(log: DecisionLog, words: &mut [u64], list: &[u64]) -> Recorded {
 
 // ---- one decision
 
-fn record(args: &[u64; WORDS], words: &mut [u64], out: &mut [u64; WORDS]) {
-    let seed = args[4];
-    rows_seeded::fill(words, seed);
+fn record(args: &[u64; WORDS]) -> [u64; SHORT] {
+    let seed = word(args, 4);
+    let mut buffer = rows_seeded::seeded(seed);
+    let n = length_at(args, 3);
+    let words = &mut buffer[0..n];
     let r = recorded(log_at(args), words, words::part(args, 5));
-    out[0] = r.refusal;
-    put_log(out, 1, r.log);
-    rows_seeded::put_changes(words, seed, out);
-    words::put(out, words::after(out, 4, 1), rows_seeded::digest(words));
+    let told = words::told(&[r.refusal, r.log.first, r.log.count, r.log.sequence], &[]);
+    rows_seeded::changes(told, words, seed)
 }
 
 // ---- the kept decisions
 
-fn recent(args: &[u64; WORDS], words: &mut [u64], room: &mut [u64], out: &mut [u64; WORDS]) {
-    let seed = args[6];
-    rows_seeded::fill(words, args[4]);
-    rows_seeded::fill(room, seed);
-    let r = recent::recent_decisions(log_at(args), words, room);
-    rows_seeded::put_changes(room, seed, out);
-    out[0] = r.refusal;
-    out[1] = r.count;
-    out[2] = rows_seeded::digest(room);
-    out[3] = out[4] / 2;
+fn recent(args: &[u64; WORDS]) -> [u64; SHORT] {
+    let seed = word(args, 6);
+    let words = rows_seeded::seeded(word(args, 4));
+    let mut room = rows_seeded::seeded(seed);
+    let n = length_at(args, 3);
+    let m = length_at(args, 5);
+    let out = &mut room[0..m];
+    let r = recent::recent_decisions(log_at(args), &words[0..n], out);
+    let changes = rows_seeded::changes([0; SHORT], out, seed);
+    words::told(
+        &[r.refusal, r.count, rows_seeded::digest(out), changes[4] / 2],
+        &[],
+    )
 }
 
 // ---- many decisions
@@ -101,40 +108,32 @@ fn filled(start: DecisionLog, words: &mut [u64], n: u64) -> DecisionLog {
     log
 }
 
-fn run(args: &[u64; WORDS], words: &mut [u64], room: &mut [u64], out: &mut [u64; WORDS]) {
-    rows_seeded::fill(words, args[3]);
-    let log = filled(log_at(args), words, args[4]);
-    recent::recent_decisions(log, words, room);
-    put_log(out, 0, log);
-    out[3] = rows_seeded::digest(words);
-    out[4] = rows_seeded::digest(room);
-}
-
-fn put_seeded(call: u64, args: &[u64; WORDS], out: &mut [u64; WORDS]) {
-    let mut words = [0u64; SEEDED];
+fn run(args: &[u64; WORDS]) -> [u64; SHORT] {
+    let mut buffer = rows_seeded::seeded(word(args, 3));
+    let words = &mut buffer[0..SEEDED - 1];
+    let log = filled(log_at(args), words, word(args, 4));
     let mut room = [0u64; SEEDED];
-    match call {
-        53 => record(args, words::room(&mut words, 0, args[3] as usize), out),
-        54 => recent(
-            args,
-            words::room(&mut words, 0, args[3] as usize),
-            words::room(&mut room, 0, args[5] as usize),
-            out,
-        ),
-        _ => run(
-            args,
-            words::room(&mut words, 0, SEEDED - 1),
-            words::room(&mut room, 0, SEEDED - 1),
-            out,
-        ),
-    }
+    let out = &mut room[0..SEEDED - 1];
+    recent::recent_decisions(log, words, out);
+    words::told(
+        &[
+            log.first,
+            log.count,
+            log.sequence,
+            rows_seeded::digest(words),
+            rows_seeded::digest(out),
+        ],
+        &[],
+    )
 }
 
-pub fn put_answer(call: u64, args: &[u64; WORDS], out: &mut [u64; WORDS]) {
+pub fn answer(call: u64, args: &[u64; WORDS]) -> [u64; SHORT] {
     match call {
-        49 | 50 => put_anew(words::part(args, 0), out, (call == 50) as usize),
-        51 => put_log(out, 0, log::empty()),
-        52 => out[0] = log::kept_place(log_at(args), args[3]),
-        _ => put_seeded(call, args, out),
+        49 | 50 => anew(call, words::part(args, 0)),
+        51 => log_told(log::empty()),
+        52 => words::told(&[log::kept_place(log_at(args), word(args, 3))], &[]),
+        53 => record(args),
+        54 => recent(args),
+        _ => run(args),
     }
 }

@@ -9,7 +9,9 @@ use kinds::winner::Winner;
 use rows_state::states;
 use rows_state::states::float;
 use rows_words::words;
+use rows_words::words::SHORT;
 use rows_words::words::WORDS;
+use rows_words::words::word;
 
 // ---- estimates
 
@@ -25,7 +27,7 @@ fn estimated(
 {
     estimates::estimate_candidates(
         words::part(args, 0),
-        words::word(args, next),
+        word(args, next),
         words::part(args, next + 1),
         words::part(args, fourth),
         words::part(args, words::after(args, fourth, 1)),
@@ -33,26 +35,25 @@ fn estimated(
     )
 }
 
-fn put_estimates(args: &[u64; WORDS], out: &mut [u64; WORDS]) {
+pub fn put_estimates(args: &[u64; WORDS], out: &mut [u64; WORDS]) {
     let next = words::after(args, 0, 1);
     let fourth = words::after(args, next + 1, 1);
     let last = words::after(args, words::after(args, fourth, 1), 1);
     let end = words::put_list(out, 2, words::part(args, last));
     let e = estimated(args, next, fourth, out, end);
-    out[0] = e.refusal;
-    out[1] = e.estimates as u64;
+    words::put_all(out, 0, &[e.refusal, e.estimates as u64]);
 }
 
 // ---- choice
 
 fn estimate_at(args: &[u64; WORDS]) -> CandidateEstimate {
     CandidateEstimate {
-        input_bytes: args[3],
-        overlap_bytes: args[4],
-        estimated_rewrite_bytes: args[5],
-        debt_relief_bytes: args[6],
-        l0_files_removed: args[7],
-        age: args[8],
+        input_bytes: word(args, 3),
+        overlap_bytes: word(args, 4),
+        estimated_rewrite_bytes: word(args, 5),
+        debt_relief_bytes: word(args, 6),
+        l0_files_removed: word(args, 7),
+        age: word(args, 8),
         l0_relief: float(args, 9),
         debt_relief: float(args, 10),
         read_relief: float(args, 11),
@@ -66,7 +67,7 @@ fn winner_words(winner: Winner) -> [u64; 2] {
     }
 }
 
-fn put_picked(args: &[u64; WORDS], out: &mut [u64; WORDS]) {
+fn picked(args: &[u64; WORDS]) -> [u64; SHORT] {
     let p = choice::pick_best_cause_aware(
         states::vector_at(args, 0),
         states::focus_at(args, 3),
@@ -74,11 +75,21 @@ fn put_picked(args: &[u64; WORDS], out: &mut [u64; WORDS]) {
         words::part(args, words::after(args, 6, 1)),
     );
     let winner = p.winner;
+    let won = winner_words(winner);
+    let focus = states::focus_words(p.focus);
     let tier = p.tier;
-    out[0] = p.refusal;
-    words::put_all(out, 1, &winner_words(winner));
-    words::put_all(out, 3, &states::focus_words(p.focus));
-    out[6] = tier.number();
+    words::told(
+        &[
+            p.refusal,
+            won[0],
+            won[1],
+            focus[0],
+            focus[1],
+            focus[2],
+            tier.number(),
+        ],
+        &[],
+    )
 }
 
 // ---- the decision
@@ -99,29 +110,29 @@ fn tier_of(n: u64) -> SelectionTier {
     }
 }
 
-fn put_decision(args: &[u64; WORDS], out: &mut [u64; WORDS]) {
+fn decision(args: &[u64; WORDS]) -> [u64; SHORT] {
     let d = trace::scheduling_decision(
         states::vector_at(args, 0),
         Picked {
-            refusal: args[3],
-            winner: winner_of(args[4], args[5]),
+            refusal: word(args, 3),
+            winner: winner_of(word(args, 4), word(args, 5)),
             focus: states::focus_at(args, 6),
-            tier: tier_of(args[9]),
+            tier: tier_of(word(args, 9)),
         },
         words::part(args, 10),
         words::part(args, words::after(args, 10, 1)),
     );
-    words::put_list(out, 0, &decisions::to_words(d));
+    words::told(&[], &decisions::to_words(d))
 }
 
-pub fn put_answer(call: u64, args: &[u64; WORDS], out: &mut [u64; WORDS]) {
+fn score_of(args: &[u64; WORDS]) -> u64 {
+    floats::to_bits(scores::cause_aware_score(states::vector_at(args, 0), estimate_at(args)))
+}
+
+pub fn answer(call: u64, args: &[u64; WORDS]) -> [u64; SHORT] {
     match call {
-        46 => put_estimates(args, out),
-        47 => {
-            let vector = states::vector_at(args, 0);
-            out[0] = floats::to_bits(scores::cause_aware_score(vector, estimate_at(args)));
-        }
-        48 => put_picked(args, out),
-        _ => put_decision(args, out),
+        47 => words::told(&[score_of(args)], &[]),
+        48 => picked(args),
+        _ => decision(args),
     }
 }

@@ -1,5 +1,4 @@
 // A question's text: its name, and its arguments as words, a list as its count and then its elements.
-ghost use Prim.Native.Nat.{_<_};
 use rows_words::shape;
 use rows_words::words;
 use rows_words::words::WORDS;
@@ -20,8 +19,30 @@ fn digit(b: u8) -> u64 {
     b as u64 - 48
 }
 
-// The number from a place on goes to a place of the words: at least one digit, and none behind a first 0. The place behind it is answered, or NUMBER.
-fn number(line: &[u8], from: usize, args: &mut [u64; WORDS], at: usize) -> usize {
+// A number, and the place behind it, or a fault.
+struct Numeral {
+    value: u64,
+    next: usize,
+}
+
+// The end of a number's digits: there is at least one, none behind a first 0, and no further one behind the end.
+fn ended(line: &[u8], from: usize, end: usize) -> usize {
+    if end <= from {
+        return NUMBER;
+    }
+    if digit(words::byte(line, end)) < 10 {
+        return NUMBER;
+    }
+    if words::byte(line, from) == b'0' {
+        if from + 1 < end {
+            return NUMBER;
+        }
+    }
+    end
+}
+
+// The number from a place on, as far as the digits that have room.
+fn number(line: &[u8], from: usize) -> Numeral {
     let mut value = 0;
     let mut i = from;
     while i < line.len() {
@@ -29,46 +50,47 @@ fn number(line: &[u8], from: usize, args: &mut [u64; WORDS], at: usize) -> usize
         if 9 < d {
             break;
         }
-        if value == 0 {
-            if from < i {
-                return NUMBER;
-            }
-        }
         if (0xffff_ffff_ffff_ffff - d) / 10 < value {
-            return NUMBER;
+            break;
         }
         value = value * 10 + d;
         i += 1;
     }
-    if i <= from {
-        return NUMBER;
+    Numeral {
+        value,
+        next: ended(line, from, i),
     }
-    words::put(args, at, value);
-    i
+}
+
+// What the text of a list that is not empty answers: the place behind its bracket, or a fault.
+fn closed(mark: u8, next: usize, last: usize) -> usize {
+    if WORDS <= last {
+        return LONG;
+    }
+    if mark == b']' {
+        return next;
+    }
+    NUMBER
 }
 
 // A list's numbers, from its first on, up to its bracket.
-fn elements(line: &[u8], from: usize, args: &mut [u64; WORDS], at: usize) -> usize
-    requires { ⌜ at < 131072 ⌝ }
-{
+fn elements(line: &[u8], from: usize, args: &mut [u64; WORDS], at: usize) -> usize {
+    let mut mark = b' ';
     let mut i = from;
-    let mut count = 1;
-    while count < WORDS - at {
-        let next = number(line, i, args, at + count);
-        if line.len() <= next {
-            return NUMBER;
+    let mut to = std::num::wrapping_add_usize(at, 1);
+    while to < WORDS {
+        let n = number(line, i);
+        words::put(args, to, n.value);
+        let next = n.next;
+        mark = words::byte(line, next);
+        i = std::num::wrapping_add_usize(next, 1);
+        if mark != b' ' {
+            break;
         }
-        i = next + 1;
-        if line[next] == b']' {
-            words::put(args, at, count as u64);
-            return i;
-        }
-        if line[next] != b' ' {
-            return NUMBER;
-        }
-        count += 1;
+        to += 1;
     }
-    LONG
+    words::put(args, at, std::num::wrapping_sub_usize(to, at) as u64);
+    closed(mark, i, to)
 }
 
 // The list from behind its bracket on goes to a place of the words.
@@ -86,15 +108,8 @@ fn list(line: &[u8], from: usize, args: &mut [u64; WORDS], at: usize) -> usize {
     elements(line, from, args, at)
 }
 
-// The number (kind 0) or the list (kind 1) from a place on.
-fn argument(line: &[u8], from: usize, kind: u64, args: &mut [u64; WORDS], at: usize) -> usize {
-    if line.len() <= from {
-        return NUMBER;
-    }
-    if kind == 1 {
-        return list(line, from + 1, args, at);
-    }
-    let next = number(line, from, args, at);
+// A number's end, where the words have room for it.
+fn in_room(next: usize, at: usize) -> usize {
     if at < WORDS {
         return next;
     }
@@ -104,20 +119,28 @@ fn argument(line: &[u8], from: usize, kind: u64, args: &mut [u64; WORDS], at: us
     LONG
 }
 
+// The number (kind 0) or the list (kind 1) behind the space at a place.
+fn argument(line: &[u8], space: usize, kind: u64, args: &mut [u64; WORDS], at: usize) -> usize {
+    if words::byte(line, space) != b' ' {
+        return NUMBER;
+    }
+    let from = std::num::wrapping_add_usize(space, 1);
+    if kind == 1 {
+        return list(line, std::num::wrapping_add_usize(from, 1), args, at);
+    }
+    let n = number(line, from);
+    words::put(args, at, n.value);
+    in_room(n.next, at)
+}
+
 // The arguments behind the name, each behind one space, go to the words; their shape is answered, or a fault.
 pub fn arguments(line: &[u8], name_end: usize, args: &mut [u64; WORDS]) -> u64 {
     let mut shape = 1;
     let mut count = 0;
     let mut at = name_end;
     while at < line.len() {
-        if line[at] != b' ' {
-            return shape::NUMBER;
-        }
         let kind = (words::byte(line, at + 1) == b'[') as u64;
-        let next = argument(line, at + 1, kind, args, count);
-        if line.len() < next {
-            return next as u64;
-        }
+        let next = argument(line, at, kind, args, count);
         // It never is; the test spares a proof that the loop ends.
         if next <= at {
             return shape::NUMBER;
@@ -125,6 +148,10 @@ pub fn arguments(line: &[u8], name_end: usize, args: &mut [u64; WORDS]) -> u64 {
         shape = shape::shape_with(shape, kind);
         count = words::after(args, count, kind);
         at = next;
+    }
+    // A fault lies behind the line, and so ends the loop.
+    if line.len() < at {
+        return at as u64;
     }
     shape
 }

@@ -1,52 +1,68 @@
 // The calls of the replay's text.
 use numerals::Number;
 use replay_lines::run;
+use replay_lines::run::Replayed;
 use rows_words::words;
 use rows_words::words::BYTES;
+use rows_words::words::SHORT;
 use rows_words::words::WORDS;
 
-fn put_number(n: Number, out: &mut [u64; WORDS]) {
+fn number_words(n: Number) -> [u64; 2] {
     match n {
-        Number::Value(value) => {
-            out[0] = 1;
-            out[1] = value;
-        }
-        Number::None => {
-            out[0] = 0;
-            out[1] = 0;
-        }
+        Number::Value(value) => [1, value],
+        Number::None => [0, 0],
     }
 }
 
-// The output goes to the first bytes, and those to the answer.
-fn put_output(text: &[u8], bytes: &mut [u8], end: usize, out: &mut [u64; WORDS]) {
-    if bytes.len() < end {
-        return;
-    }
-    let room = &mut bytes[0..end];
-    let r = run::replay(text, room);
-    out[0] = r.refusal;
-    out[1] = r.length as u64;
-    words::put_bytes(out, 2, room);
+fn text_of<'a>(args: &[u64; WORDS], bytes: &'a [u8]) -> &'a [u8] {
+    words::cut(bytes, 0, words::word(args, 0) as usize)
 }
 
-fn put_replay(text: &[u8], list: &[u64], bytes: &mut [u8; BYTES], out: &mut [u64; WORDS]) {
-    let end = words::lay_bytes(bytes, 0, list, BYTES);
-    put_output(text, bytes, end, out);
+pub fn answer(call: u64, args: &[u64; WORDS], bytes: &[u8]) -> [u64; SHORT] {
+    let text = text_of(args, bytes);
+    let n = if call == 56 {
+        numerals::decimal(text)
+    } else {
+        numerals::bits(text)
+    };
+    words::told(&number_words(n), &[])
+}
+
+fn put_run(out: &mut [u64; WORDS], r: Replayed, shown: &[u8]) {
+    words::put_all(out, 0, &[r.refusal, r.length as u64]);
+    words::put_bytes(out, 2, shown);
+}
+
+fn bytes_of(list: &[u64]) -> [u8; BYTES] {
+    let mut bytes = [0u8; BYTES];
+    words::lay_bytes(&mut bytes, 0, list, BYTES);
+    bytes
+}
+
+// The output goes to what a list holds.
+fn put_replay(text: &[u8], list: &[u64], out: &mut [u64; WORDS]) {
+    let mut bytes = bytes_of(list);
+    let n = words::least(list.len(), BYTES);
+    let room = &mut bytes[0..n];
+    put_run(out, run::replay(text, room), room);
 }
 
 // ---- a text that fills the input
 
 // The text again and again, as far as the bytes go.
-fn repeat(text: &[u8], bytes: &mut [u8; BYTES]) {
-    if text.len() == 0 {
-        return;
-    }
+fn repeated(text: &[u8]) -> [u8; BYTES] {
+    let mut bytes = [0u8; BYTES];
     let mut i = 0;
+    let mut from = 0;
     while i < BYTES {
-        bytes[i] = words::byte(text, i % text.len());
+        if text.len() <= from {
+            from = 0;
+        }
+        bytes[i] = words::byte(text, from);
+        from = std::num::wrapping_add_usize(from, 1);
         i += 1;
     }
+    bytes
 }
 
 // The last line, from behind the line end before it.
@@ -61,23 +77,19 @@ fn last_line(output: &[u8]) -> &[u8] {
     output
 }
 
-fn put_filled(text: &[u8], length: usize, bytes: &mut [u8; BYTES], out: &mut [u64; WORDS]) {
-    repeat(text, bytes);
+fn put_filled(text: &[u8], length: usize, out: &mut [u64; WORDS]) {
+    let bytes = repeated(text);
     let mut room = run::output_room();
-    let r = run::replay(words::cut(bytes, 0, length), &mut room);
-    out[0] = r.refusal;
-    out[1] = r.length as u64;
-    words::put_bytes(out, 2, last_line(words::cut(&room, 0, r.length)));
+    let r = run::replay(words::cut(&bytes, 0, length), &mut room);
+    put_run(out, r, last_line(words::cut(&room, 0, r.length)));
 }
 
 pub fn put_answer(call: u64, args: &[u64; WORDS], bytes: &[u8], out: &mut [u64; WORDS]) {
-    let text = words::cut(bytes, 0, args[0] as usize);
+    let text = text_of(args, bytes);
     let second = words::after(args, 0, 1);
-    let mut room = [0u8; BYTES];
-    match call {
-        56 => put_number(numerals::decimal(text), out),
-        57 => put_number(numerals::bits(text), out),
-        58 => put_replay(text, words::part(args, second), &mut room, out),
-        _ => put_filled(text, words::word(args, second) as usize, &mut room, out),
+    if call == 58 {
+        put_replay(text, words::part(args, second), out);
+        return;
     }
+    put_filled(text, words::word(args, second) as usize, out);
 }

@@ -1,20 +1,24 @@
 // Buffers too long for a question: what they hold before a call comes from a seed, and after it they are told by a digest and by the words that differ.
-use rows_words::words;
-use rows_words::words::WORDS;
+use rows_words::words::SHORT;
+
+// The most words of a log or of what is read of it, one more than there are.
+pub const SEEDED: usize = 57345;
 
 fn odd_after(word: u64, seed: u64) -> u64 {
     std::num::wrapping_add_u64(word, std::num::wrapping_add_u64(seed, seed))
 }
 
 // The i-th word is seed * (2 i + 1).
-pub fn fill(words: &mut [u64], seed: u64) {
+pub fn seeded(seed: u64) -> [u64; SEEDED] {
+    let mut words = [0u64; SEEDED];
     let mut word = seed;
     let mut i = 0;
-    while i < words.len() {
+    while i < SEEDED {
         words[i] = word;
         word = odd_after(word, seed);
         i += 1;
     }
+    words
 }
 
 // The sum of each word times its place from 1 on, by the sums from each place to the end.
@@ -30,17 +34,28 @@ pub fn digest(words: &[u64]) -> u64 {
     total
 }
 
-// The list of the places and words that differ from the seed's, from 4 on.
-pub fn put_changes(words: &[u64], seed: u64, out: &mut [u64; WORDS]) {
+fn put_pair(told: &mut [u64; SHORT], at: usize, n: u64, m: u64) {
+    if at < SHORT - 1 {
+        told[at] = n;
+        told[at + 1] = m;
+    }
+}
+
+// An answer with, from 4 on, the list of the places and words that differ from the seed's, and the digest.
+pub fn changes(mut told: [u64; SHORT], words: &[u64], seed: u64) -> [u64; SHORT] {
     let mut to = 5;
     let mut word = seed;
     let mut i = 0;
     while i < words.len() {
-        if words[i] != word {
-            to = words::put_all(out, to, &[i as u64, words[i]]);
+        let found = words[i];
+        if found != word {
+            put_pair(&mut told, to, i as u64, found);
+            to = std::num::wrapping_add_usize(to, 2);
         }
         word = odd_after(word, seed);
         i += 1;
     }
-    out[4] = std::num::wrapping_sub_u64(to as u64, 5);
+    told[4] = std::num::wrapping_sub_u64(to as u64, 5);
+    put_pair(&mut told, to, digest(words), 0);
+    told
 }

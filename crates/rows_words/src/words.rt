@@ -1,10 +1,11 @@
 // Words and bytes by their place. A list is its count and then its elements; what lies past the end reads 0 or nothing, and what has no room is lost.
-ghost use Prim.Native.Nat.{_≤_, _<_, _-_};
-ghost use mathlib.Core.Path.{_≡_};
-ghost use lib.ListN.{getD, length, take, drop};
+ghost use Prim.Native.Nat.{_≤_, _+_};
 
 // The most words of a question, and of an answer.
 pub const WORDS: usize = 131072;
+
+// The words of an answer that is handed back by value.
+pub const SHORT: usize = 40;
 
 // The most bytes of a question's byte lists.
 pub const BYTES: usize = 131073;
@@ -12,18 +13,33 @@ pub const BYTES: usize = 131073;
 // The end of bytes that have no room: more than any.
 pub const NO_ROOM: usize = 131074;
 
-pub fn word(words: &[u64; WORDS], at: usize) -> u64
-    ensures { λ r. ⌜ (at < 131072 → r ≡ getD (now (words .entry)) at 0) ⌝ }
+pub fn least(a: usize, b: usize) -> usize
+    ensures { λ r. ⌜ (r ≤ a) × (r ≤ b) ⌝ }
 {
+    if a < b {
+        return a;
+    }
+    b
+}
+
+// The place behind so many from a place on, and no more than an end.
+fn behind(at: usize, count: usize, end: usize) -> usize
+    ensures { λ r. ⌜ (r ≤ end) × (r ≤ at + count) ⌝ }
+{
+    if end <= at {
+        return end;
+    }
+    at + least(count, end - at)
+}
+
+pub fn word(words: &[u64; WORDS], at: usize) -> u64 {
     if at < WORDS {
         return words[at];
     }
     0
 }
 
-pub fn byte(bytes: &[u8], at: usize) -> u8
-    ensures { λ r. ⌜ (at < length (now (bytes .entry)) → r ≡ getD (now (bytes .entry)) at 0) ⌝ }
-{
+pub fn byte(bytes: &[u8], at: usize) -> u8 {
     if at < bytes.len() {
         return bytes[at];
     }
@@ -37,7 +53,7 @@ pub fn find(s: &[u8], from: usize, b: u8) -> usize
     let mut i = from;
     while i < s.len() {
         if s[i] == b {
-            return i;
+            break;
         }
         i += 1;
     }
@@ -57,44 +73,26 @@ pub fn after(words: &[u64; WORDS], at: usize, kind: u64) -> usize
     at + 1 + (words[at] % 131072) as usize
 }
 
-// The bytes from a place up to another, none where there are not so many.
-pub fn cut(bytes: &[u8], from: usize, end: usize) -> &[u8]
-    ensures { λ r. ⌜ (from ≤ end → end ≤ length (now (bytes .entry)) → now r ≡ take (end - from) (drop from (now (bytes .entry)))) ⌝ }
-{
-    if end < from {
-        return &bytes[0..0];
-    }
-    if bytes.len() < end {
-        return &bytes[0..0];
-    }
-    &bytes[from..end]
+// The bytes from a place up to another, as far as they go.
+pub fn cut(bytes: &[u8], from: usize, end: usize) -> &[u8] {
+    let last = least(end, bytes.len());
+    let first = least(from, last);
+    &bytes[first..last]
 }
 
 // The elements of the list at a place.
-pub fn part(words: &[u64], at: usize) -> &[u64]
-    ensures { λ r. ⌜ length (now r) ≤ length (now (words .entry)) ⌝ }
-{
-    if words.len() <= at {
-        return &words[0..0];
-    }
-    let from = at + 1;
-    let count = words[at];
-    if ((words.len() - from) as u64) < count {
-        return &words[0..0];
-    }
-    let end = from + count as usize;
-    &words[from..end]
+pub fn part(words: &[u64; WORDS], at: usize) -> &[u64] {
+    let last = least(after(words, at, 1), WORDS);
+    let first = least(std::num::wrapping_add_usize(at, 1), last);
+    let all = &words[..];
+    &all[first..last]
 }
 
 // The words from a place up to another, to write to.
 pub fn room(words: &mut [u64], from: usize, end: usize) -> &mut [u64] {
-    if end < from {
-        return &mut words[0..0];
-    }
-    if words.len() < end {
-        return &mut words[0..0];
-    }
-    &mut words[from..end]
+    let last = least(end, words.len());
+    let first = least(from, last);
+    &mut words[first..last]
 }
 
 pub fn put(words: &mut [u64; WORDS], at: usize, n: u64) {
@@ -104,66 +102,70 @@ pub fn put(words: &mut [u64; WORDS], at: usize, n: u64) {
 }
 
 // Numbers go to the words from a place on, and the place after them is answered.
-pub fn put_all(words: &mut [u64; WORDS], at: usize, list: &[u64]) -> usize
-    ensures { λ r. ⌜ r ≤ 131072 ⌝ }
-{
-    if WORDS <= at {
-        return WORDS;
-    }
+pub fn put_all(words: &mut [u64; WORDS], at: usize, list: &[u64]) -> usize {
+    let end = behind(at, list.len(), WORDS);
     let mut to = at;
-    let mut i = 0;
-    while i < list.len() {
-        if WORDS <= to {
-            return WORDS;
-        }
-        words[to] = list[i];
+    while to < end {
+        words[to] = list[to - at];
         to += 1;
-        i += 1;
     }
-    to
+    end
 }
 
 // A list goes to a place, and the place after it is answered.
-pub fn put_list(words: &mut [u64; WORDS], at: usize, list: &[u64]) -> usize
-    ensures { λ r. ⌜ r ≤ 131072 ⌝ }
-{
-    if WORDS <= at {
-        return WORDS;
-    }
-    words[at] = list.len() as u64;
-    put_all(words, at + 1, list)
+pub fn put_list(words: &mut [u64; WORDS], at: usize, list: &[u64]) -> usize {
+    put(words, at, list.len() as u64);
+    put_all(words, std::num::wrapping_add_usize(at, 1), list)
 }
 
 // A list of bytes goes to a place.
 pub fn put_bytes(words: &mut [u64; WORDS], at: usize, list: &[u8]) {
     put(words, at, list.len() as u64);
-    let mut to = at;
-    let mut i = 0;
-    while i < list.len() {
-        to = std::num::wrapping_add_usize(to, 1);
-        put(words, to, list[i] as u64);
-        i += 1;
+    let first = std::num::wrapping_add_usize(at, 1);
+    let end = behind(first, list.len(), WORDS);
+    let mut to = first;
+    while to < end {
+        words[to] = byte(list, to - first) as u64;
+        to += 1;
     }
 }
 
-// A list as bytes from a place up to an end: where they end, or NO_ROOM, also where a number is no byte.
+// A list as bytes from a place up to an end: where they end, or NO_ROOM.
 pub fn lay_bytes(bytes: &mut [u8; BYTES], at: usize, list: &[u64], end: usize) -> usize {
+    let last = behind(at, list.len(), BYTES);
+    if end < last {
+        return NO_ROOM;
+    }
     let mut to = at;
-    let mut i = 0;
-    while i < list.len() {
-        if end <= to {
-            return NO_ROOM;
-        }
-        if BYTES <= to {
-            return NO_ROOM;
-        }
-        let n = list[i];
-        if 255 < n {
-            return NO_ROOM;
-        }
-        bytes[to] = n as u8;
+    while to < last {
+        bytes[to] = (list[to - at] % 256) as u8;
         to += 1;
+    }
+    last
+}
+
+// The word at a place of an answer: numbers, then a list.
+fn told_at(numbers: &[u64], list: &[u64], at: usize) -> u64 {
+    if at < numbers.len() {
+        return numbers[at];
+    }
+    let behind = at - numbers.len();
+    if behind == 0 {
+        return list.len() as u64;
+    }
+    if list.len() < behind {
+        return 0;
+    }
+    list[behind - 1]
+}
+
+// An answer of numbers and then a list, which stays unread where only numbers are told.
+pub fn told(numbers: &[u64], list: &[u64]) -> [u64; SHORT] {
+    let mut words = [0u64; SHORT];
+    let mut i = 0;
+    while i < SHORT {
+        words[i] = told_at(numbers, list, i);
         i += 1;
     }
-    to
+    words
 }

@@ -6,10 +6,10 @@ use Rattle.rows_questions.proofs.number.Statement.{statement}
 use Rattle.rows_questions.proofs.number.Tie as tie
 
 abbrev Inv-loop : tie.InvT-loop
-Inv-loop line from args at value₀ i₀ value i = value < 2 ^ 64
+Inv-loop line from value₀ i₀ value i = value < 2 ^ 64
 
 abbrev μ-loop : tie.MeasureT-loop
-μ-loop line from args at value₀ i₀ value i = length line - i
+μ-loop line from value₀ i₀ value i = length line - i
 
 pub number-spec : {M : Type 1} → statement M
-number-spec = tie.close (tie.spec Inv-loop μ-loop (search needs) (search needs) (search needs) (search needs) (search needs) (search needs) (search needs) (search needs) (search needs) (search needs) (search needs) (search needs) (search needs) (search needs))
+number-spec = tie.close (tie.spec Inv-loop μ-loop (search needs) (search needs) (search needs) (search needs) (search needs) (search needs) (search needs) (search needs) (search needs) (search needs) (search needs))

@@ -6,10 +6,10 @@ use Rattle.rows_calls.proofs.letters.are_numbers.Statement.{statement}
 use Rattle.rows_calls.proofs.letters.are_numbers.Tie as tie
 
 abbrev Inv-loop : tie.InvT-loop
-Inv-loop letters list i₀ i = Unit {0}
+Inv-loop letters list last i₀ i = Unit {0}
 
 abbrev μ-loop : tie.MeasureT-loop
-μ-loop letters list i₀ i = length letters - i
+μ-loop letters list last i₀ i = length list - i
 
 pub are-numbers-spec : {M : Type 1} → statement M
 are-numbers-spec = tie.close (tie.spec Inv-loop μ-loop (search needs) (search needs) (search needs) (search needs) (search needs) (search needs) (search needs) (search needs) (search needs) (search needs) (search needs))

@@ -1,15 +1,14 @@
 -- `rows_words::words::lay_bytes` is safe and ends: each turn lays one byte. Assumes nothing.
-use lib.ListN.{length}
-use Prim.Native.Nat.{_-_}
+use Prim.Native.Nat.{_-_, _≤_}
 use borrow.Author.Needs.{needs}
 use Rattle.rows_words.proofs.words.lay_bytes.Statement.{statement}
 use Rattle.rows_words.proofs.words.lay_bytes.Tie as tie
 
 abbrev Inv-loop : tie.InvT-loop
-Inv-loop bytes₀ at list end to₀ i₀ bytes to i = Unit {0}
+Inv-loop bytes₀ at list end last to₀ bytes to = at ≤ to
 
 abbrev μ-loop : tie.MeasureT-loop
-μ-loop bytes₀ at list end to₀ i₀ bytes to i = length list - i
+μ-loop bytes₀ at list end last to₀ bytes to = last - to
 
 pub lay-bytes-spec : {M : Type 1} → statement M
-lay-bytes-spec = tie.close (tie.spec Inv-loop μ-loop (search needs) (search needs) (search needs) (search needs) (search needs) (search needs) (search needs) (search needs) (search needs) (search needs) (search needs) (search needs) (search needs))
+lay-bytes-spec = tie.close (tie.spec Inv-loop μ-loop (search needs) (search needs) (search needs) (search needs) (search needs) (search needs) (search needs) (search needs) (search needs) (search needs) (search needs) (search needs))
