@@ -21,14 +21,8 @@ abbrev μ-loop : tie.MeasureT-loop
 returns : tie.Need-returns Inv-loop μ-loop
 returns c = sym (sets-past (now (c .before .args .words)) _ (c .before .args .at) (c .if1 .taken))
 
-sub-room : tie.Need-sub-room Inv-loop μ-loop
-sub-room c = search needs
-
 loop-holds : tie.Need-loop-holds Inv-loop μ-loop
 loop-holds c = (omega arith, refl, rw add-zero)
-
-same-length : tie.Need-same-length Inv-loop μ-loop
-same-length c = search needs
 
 returns-2 : tie.Need-returns-2 Inv-loop μ-loop
 returns-2 c =
@@ -37,32 +31,11 @@ returns-2 c =
     let h : length (l .out) ≤ a .at + l .i = omega arith in
     sym (l .inv .2 ∙ sets-past (drop (l .i) (now (a .words))) (l .out) (a .at + l .i) h)
 
-mul-out : tie.Need-mul-out Inv-loop μ-loop
-mul-out c = search needs
-
-shared-slice-read-out : tie.Need-shared-slice-read-out Inv-loop μ-loop
-shared-slice-read-out c = search needs
-
-add-out : tie.Need-add-out Inv-loop μ-loop
-add-out c = search needs
-
-mul-out-2 : tie.Need-mul-out-2 Inv-loop μ-loop
-mul-out-2 c = search needs
-
-slice-write-out : tie.Need-slice-write-out Inv-loop μ-loop
-slice-write-out c = search needs
-
-add-i : tie.Need-add-i Inv-loop μ-loop
-add-i c = search needs
-
 loop-less : tie.Need-loop-less Inv-loop μ-loop
 loop-less c = search needs
 
 loop-again : tie.Need-loop-again Inv-loop μ-loop
 loop-again c = (omega arith, simp length-set (c .before .before .before .loop .inv .1), c .before .before .before .loop .inv .2 ∙ sets-more _ _ _ _ (c .before .before .loop-test .taken))
-
-same-length-2 : tie.Need-same-length-2 Inv-loop μ-loop
-same-length-2 c = search needs
 
 returns-3 : tie.Need-returns-3 Inv-loop μ-loop
 returns-3 c = sym (c .before .loop .inv .2 ∙ sets-end _ _ _ _ (c .loop-test .left))
@@ -74,17 +47,17 @@ put-words-spec =
     Inv-loop
     μ-loop
     returns
-    sub-room
+    (λ c. search needs)
     loop-holds
-    same-length
+    (λ c. search needs)
     returns-2
-    mul-out
-    shared-slice-read-out
-    add-out
-    mul-out-2
-    slice-write-out
-    add-i
+    (λ c. search needs)
+    (λ c. search needs)
+    (λ c. search needs)
+    (λ c. search needs)
+    (λ c. search needs)
+    (λ c. search needs)
     loop-less
     loop-again
-    same-length-2
+    (λ c. search needs)
     returns-3)

@@ -32,27 +32,12 @@ more : (c : tie.After-entry-at Inv-loop μ-loop) → let a = c .before .before .
 more c = let a = c .before .before .before .before .before .before .before .before .before .before .before .before .before .before .before .before .before .before .args in let l = c .before .before .loop in
     rw (over-more (now (a .keys)) (tablesOf (now (a .tables))) (entriesOf (now (a .over))) (l .i) (omega arith), ← (c .entry-at .ensures)) at (l .inv .1)
 
-past-limits-requires : tie.Need-past-limits-requires Inv-loop μ-loop
-past-limits-requires c κs = tt
-
 returns : tie.Need-returns Inv-loop μ-loop
 returns c = let a = c .before .before .before .before .before .before .before .args in
     rw (past (now (a .tables)) (now (a .keys)) (a .trigger) (now (a .over)) (sym (c .before .past-limits .ensures) ∙ c .if1 .taken)) (written-none _ _ _)
 
-entry-count-requires : tie.Need-entry-count-requires Inv-loop μ-loop
-entry-count-requires c κs = tt
-
-put-l0-requires : tie.Need-put-l0-requires Inv-loop μ-loop
-put-l0-requires c κs = tt
-
 loop-holds : tie.Need-loop-holds Inv-loop μ-loop
 loop-holds c = (omega arith, writing-start _ _ _ _)
-
-entry-at-requires : tie.Need-entry-at-requires Inv-loop μ-loop
-entry-at-requires c κs = tt
-
-add-i : tie.Need-add-i Inv-loop μ-loop
-add-i c = search needs
 
 put-level-requires : tie.Need-put-level-requires Inv-loop μ-loop
 put-level-requires c κs = let h = inside (c .before .before .before .before .before .before .before .before .before .before .before .before .before) in
@@ -80,13 +65,13 @@ put-candidates-spec =
     (tie.spec
     Inv-loop
     μ-loop
-    past-limits-requires
+    (λ c κs. tt)
     returns
-    entry-count-requires
-    put-l0-requires
+    (λ c κs. tt)
+    (λ c κs. tt)
     loop-holds
-    entry-at-requires
-    add-i
+    (λ c κs. tt)
+    (λ c. search needs)
     put-level-requires
     loop-less
     loop-again

@@ -25,49 +25,19 @@ tested : (c : tie.After-short) → let a = c .before .before .before .before .be
     c .short .result ≡ shortOf q (length (now (a .candidates))) (length (now (a .numbers)))
 tested c = let k = counted (c .before .before .before .before .before) in c .short .ensures ∙ rw (k .1, k .2, k .3, k .4)
 
-input-fault-requires : tie.Need-input-fault-requires
-input-fault-requires c κs = tt
-
 returns : tie.Need-returns
 returns c = let a = c .before .before .before .before .before .before .before .args in let q = generateInput (now (a .tables)) (now (a .keys)) (a .l0-compaction-trigger) (now (a .over-budget-levels)) in let e = c .before .input-fault .ensures in
     answer-refused q (now (a .candidates)) (now (a .numbers)) _ (fault-input q _ _ (λ z. c .if1 .taken (e ∙ z)) ∙ sym e) (c .if1 .taken)
 
-slice-relend-prefix-put-candidates : tie.Need-slice-relend-prefix-put-candidates
-slice-relend-prefix-put-candidates c = omega arith
-
 slice-aggregate-put-candidates : tie.Need-slice-aggregate-put-candidates
 slice-aggregate-put-candidates c = refl
-
-slice-relend-prefix-put-candidates-2 : tie.Need-slice-relend-prefix-put-candidates-2
-slice-relend-prefix-put-candidates-2 c = omega arith
 
 slice-aggregate-put-candidates-2 : tie.Need-slice-aggregate-put-candidates-2
 slice-aggregate-put-candidates-2 c = refl
 
-put-candidates-requires : tie.Need-put-candidates-requires
-put-candidates-requires c κs = tt
-
-short-requires : tie.Need-short-requires
-short-requires c κs = tt
-
-same-length : tie.Need-same-length
-same-length c = search needs
-
-same-length-2 : tie.Need-same-length-2
-same-length-2 c = search needs
-
 returns-2 : tie.Need-returns-2
 returns-2 c = let a = c .before .before .before .before .before .before .before .before .before .before .before .before .before .before .before .before .args in let q = generateInput (now (a .tables)) (now (a .keys)) (a .l0-compaction-trigger) (now (a .over-budget-levels)) in let k = counted (c .before .before .before .before .before .before) in
     rw (k .3, k .4) (answer-refused q (now (a .candidates)) (now (a .numbers)) 9 (fault-short q _ _ (k .0) (sym (tested (c .before)) ∙ c .if2 .taken)) (λ e. absurd (omega arith)))
-
-put-candidates-requires-2 : tie.Need-put-candidates-requires-2
-put-candidates-requires-2 c κs = tt
-
-same-length-3 : tie.Need-same-length-3
-same-length-3 c = search needs
-
-same-length-4 : tie.Need-same-length-4
-same-length-4 c = search needs
 
 returns-3 : tie.Need-returns-3
 returns-3 c = let a = c .before .before .before .before .before .before .before .before .before .before .before .before .before .before .before .before .before .before .before .before .before .before .before .before .args in let q = generateInput (now (a .tables)) (now (a .keys)) (a .l0-compaction-trigger) (now (a .over-budget-levels)) in let k = counted (c .before .before .before .before .before .before .before .before .before .before .before .before .before .before) in
@@ -77,18 +47,18 @@ pub generate-candidates-spec : {M : Type 1} → statement M
 generate-candidates-spec =
     tie.close
     (tie.spec
-    input-fault-requires
+    (λ c κs. tt)
     returns
-    slice-relend-prefix-put-candidates
+    (λ c. omega arith)
     slice-aggregate-put-candidates
-    slice-relend-prefix-put-candidates-2
+    (λ c. omega arith)
     slice-aggregate-put-candidates-2
-    put-candidates-requires
-    short-requires
-    same-length
-    same-length-2
+    (λ c κs. tt)
+    (λ c κs. tt)
+    (λ c. search needs)
+    (λ c. search needs)
     returns-2
-    put-candidates-requires-2
-    same-length-3
-    same-length-4
+    (λ c κs. tt)
+    (λ c. search needs)
+    (λ c. search needs)
     returns-3)

@@ -3,20 +3,11 @@ use borrow.Author.Tests.{eq-eqb, ne-eqb}
 use Rattle.choice.proofs.broken_pairs.Statement.{statement}
 use Rattle.choice.proofs.broken_pairs.Tie as tie
 
-broken-candidates-requires : tie.Need-broken-candidates-requires
-broken-candidates-requires c κs = tt
-
 returns : tie.Need-returns
 returns c = rw (← (c .before .broken-candidates .ensures), c .if1 .taken)
 
 returns-2 : tie.Need-returns-2
 returns-2 c = rw (← (c .before .before .broken-candidates .ensures), c .before .if1 .left, ne-eqb _ _ (c .if2 .taken))
-
-candidate-count-requires : tie.Need-candidate-count-requires
-candidate-count-requires c κs = tt
-
-estimate-count-requires : tie.Need-estimate-count-requires
-estimate-count-requires c κs = tt
 
 returns-3 : tie.Need-returns-3
 returns-3 c = rw (← (c .before .before .before .before .broken-candidates .ensures), c .before .before .before .if1 .left, eq-eqb _ _ (c .before .before .if2 .left), ← (c .before .candidate-count .ensures), ← (c .estimate-count .ensures))
@@ -25,9 +16,9 @@ pub broken-pairs-spec : {M : Type 1} → statement M
 broken-pairs-spec =
     tie.close
     (tie.spec
-    broken-candidates-requires
+    (λ c κs. tt)
     returns
     returns-2
-    candidate-count-requires
-    estimate-count-requires
+    (λ c κs. tt)
+    (λ c κs. tt)
     returns-3)

@@ -12,27 +12,12 @@ use borrow.Author.Needs.{needs}
 use Rattle.choice.proofs.choose.Statement.{statement}
 use Rattle.choice.proofs.choose.Tie as tie
 
-first-l0-requires : tie.Need-first-l0-requires
-first-l0-requires c κs = tt
-
-enum-known-place : tie.Need-enum-known-place
-enum-known-place c = search needs
-
-answer-requires : tie.Need-answer-requires
-answer-requires c κs = tt
-
 returns : tie.Need-returns
 unfolding choiceOf
 returns c = c .answer .ensures ∙ first-at _ _ _ (sym (c .before .before .place .given .1) ∙ c .before .before .before .before .first-l0 .ensures ∙ sym (l0-is _ 0 _ _ (c .before .before .before .before .before .before .before .pre .paired)))
 
 enum-told : tie.Need-enum-told
 enum-told c = search needs
-
-all-scores-requires : tie.Need-all-scores-requires
-all-scores-requires c κs = tt
-
-enum-known-level : tie.Need-enum-known-level
-enum-known-level c = search needs
 
 continue-focus-requires : tie.Need-continue-focus-requires
 continue-focus-requires c κs = (c .before .before .before .before .before .before .before .before .before .before .before .pre .levels, c .if1 .taken)
@@ -52,9 +37,6 @@ returns-3 c = let a = c .before .before .before .before .before .before .before 
     rw (c .reselect .ensures, c .before .before .before .before .before .before .all-scores .ensures, read-is (a .vector) (now (a .candidates)) (now (a .estimates)) (p .few) (p .paired), c .before .before .before .before .level .given .1, le-ltb _ _ (c .before .if1 .left))
     (first-none (filterOf isL0Choice all) _ (sym (c .before .before .before .before .before .before .before .enum-told .given .1) ∙ c .before .before .before .before .before .before .before .before .before .first-l0 .ensures ∙ sym (l0-is (a .vector) 0 _ _ (p .paired))))
 
-enum-told-2 : tie.Need-enum-told-2
-enum-told-2 c = search needs
-
 reselect-requires-2 : tie.Need-reselect-requires-2
 reselect-requires-2 c κs = c .before .before .before .before .before .before .before .before .pre .levels
 
@@ -68,17 +50,17 @@ pub choose-spec : {M : Type 1} → statement M
 choose-spec =
     tie.close
     (tie.spec
-    first-l0-requires
-    enum-known-place
-    answer-requires
+    (λ c κs. tt)
+    (λ c. search needs)
+    (λ c κs. tt)
     returns
     enum-told
-    all-scores-requires
-    enum-known-level
+    (λ c κs. tt)
+    (λ c. search needs)
     continue-focus-requires
     returns-2
     reselect-requires
     returns-3
-    enum-told-2
+    (λ c. search needs)
     reselect-requires-2
     returns-4)

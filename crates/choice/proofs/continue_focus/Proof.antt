@@ -5,18 +5,6 @@ use borrow.Author.Needs.{needs}
 use Rattle.choice.proofs.continue_focus.Statement.{statement}
 use Rattle.choice.proofs.continue_focus.Tie as tie
 
-pick-best-within-level-requires : tie.Need-pick-best-within-level-requires
-pick-best-within-level-requires c κs = tt
-
-enum-known-place : tie.Need-enum-known-place
-enum-known-place c = search needs
-
-add-answer : tie.Need-add-answer
-add-answer c = search needs
-
-answer-requires : tie.Need-answer-requires
-answer-requires c κs = tt
-
 enum-told : tie.Need-enum-told
 enum-told c = search needs
 
@@ -33,10 +21,10 @@ pub continue-focus-spec : {M : Type 1} → statement M
 continue-focus-spec =
     tie.close
     (tie.spec
-    pick-best-within-level-requires
-    enum-known-place
-    add-answer
-    answer-requires
+    (λ c κs. tt)
+    (λ c. search needs)
+    (λ c. search needs)
+    (λ c κs. tt)
     enum-told
     reselect-requires
     returns

@@ -6,9 +6,6 @@ use mathlib.Core.Path.{sym, _∙_}
 use Rattle.choice.proofs.pick_best_cause_aware.Statement.{statement}
 use Rattle.choice.proofs.pick_best_cause_aware.Tie as tie
 
-pick-fault-requires : tie.Need-pick-fault-requires
-pick-fault-requires c κs = tt
-
 returns : tie.Need-returns
 unfolding pickedOf
 returns c = rw (← (c .before .pick-fault .ensures), ne-eqb _ _ (c .if1 .taken))
@@ -22,4 +19,4 @@ returns-2 c = rw (← (c .before .before .pick-fault .ensures), eq-eqb _ _ (c .b
 
 pub pick-best-cause-aware-spec : {M : Type 1} → statement M
 pick-best-cause-aware-spec =
-    tie.close (tie.spec pick-fault-requires returns choose-requires returns-2)
+    tie.close (tie.spec (λ c κs. tt) returns choose-requires returns-2)

@@ -6,18 +6,6 @@ use borrow.Author.Needs.{needs}
 use Rattle.choice.proofs.pick_best_within_level.Statement.{statement}
 use Rattle.choice.proofs.pick_best_within_level.Tie as tie
 
-last-best-requires : tie.Need-last-best-requires
-last-best-requires c κs = tt
-
-enum-known-place : tie.Need-enum-known-place
-enum-known-place c = search needs
-
-saturated-at-requires : tie.Need-saturated-at-requires
-saturated-at-requires c κs = tt
-
-last-best-requires-2 : tie.Need-last-best-requires-2
-last-best-requires-2 c κs = tt
-
 returns : tie.Need-returns
 returns c = let a = c .before .before .before .before .before .before .before .before .before .args in within-yields (now (a .candidates)) (now (a .estimates)) (a .scores) (a .level) _ _ (rw (c .before .before .before .before .place .given .1) at (c .before .before .before .before .before .before .last-best .ensures)) (sym (c .before .before .saturated-at .ensures) ∙ c .before .if1 .taken) _ (c .last-best2 .ensures)
 
@@ -34,10 +22,10 @@ pub pick-best-within-level-spec : {M : Type 1} → statement M
 pick-best-within-level-spec =
     tie.close
     (tie.spec
-    last-best-requires
-    enum-known-place
-    saturated-at-requires
-    last-best-requires-2
+    (λ c κs. tt)
+    (λ c. search needs)
+    (λ c κs. tt)
+    (λ c κs. tt)
     returns
     enum-told
     returns-2

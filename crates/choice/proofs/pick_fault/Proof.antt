@@ -3,29 +3,17 @@ use Rattle.choice.specs.Choice.Call.{pickFault}
 use Rattle.choice.proofs.pick_fault.Statement.{statement}
 use Rattle.choice.proofs.pick_fault.Tie as tie
 
-too-many-candidates-requires : tie.Need-too-many-candidates-requires
-too-many-candidates-requires c κs = tt
-
 returns : tie.Need-returns
 unfolding pickFault
 returns c = rw (← (c .before .too-many-candidates .ensures), c .if1 .taken)
-
-broken-pairs-requires : tie.Need-broken-pairs-requires
-broken-pairs-requires c κs = tt
 
 returns-2 : tie.Need-returns-2
 unfolding pickFault
 returns-2 c = rw (← (c .before .before .before .too-many-candidates .ensures), c .before .before .if1 .left, ← (c .before .broken-pairs .ensures), c .if2 .taken)
 
-all-in-unit-requires : tie.Need-all-in-unit-requires
-all-in-unit-requires c κs = tt
-
 returns-3 : tie.Need-returns-3
 unfolding pickFault
 returns-3 c = rw (← (c .before .before .before .before .before .too-many-candidates .ensures), c .before .before .before .before .if1 .left, ← (c .before .before .before .broken-pairs .ensures), c .before .before .if2 .left, ← (c .before .all-in-unit .ensures), c .if3 .taken)
-
-estimates-out-requires : tie.Need-estimates-out-requires
-estimates-out-requires c κs = tt
 
 returns-4 : tie.Need-returns-4
 unfolding pickFault
@@ -39,12 +27,12 @@ pub pick-fault-spec : {M : Type 1} → statement M
 pick-fault-spec =
     tie.close
     (tie.spec
-    too-many-candidates-requires
+    (λ c κs. tt)
     returns
-    broken-pairs-requires
+    (λ c κs. tt)
     returns-2
-    all-in-unit-requires
+    (λ c κs. tt)
     returns-3
-    estimates-out-requires
+    (λ c κs. tt)
     returns-4
     returns-5)

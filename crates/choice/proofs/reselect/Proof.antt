@@ -8,20 +8,8 @@ use Rattle.choice.proofs.reselect.Tie as tie
 select-focus-level-requires : tie.Need-select-focus-level-requires
 select-focus-level-requires c κs = c .before .before .pre
 
-enum-known-level : tie.Need-enum-known-level
-enum-known-level c = search needs
-
-pick-best-within-level-requires : tie.Need-pick-best-within-level-requires
-pick-best-within-level-requires c κs = tt
-
-answer-requires : tie.Need-answer-requires
-answer-requires c κs = tt
-
 enum-told : tie.Need-enum-told
 enum-told c = search needs
-
-answer-requires-2 : tie.Need-answer-requires-2
-answer-requires-2 c κs = tt
 
 returns : tie.Need-returns
 returns c = c .answer .ensures ∙ rw (c .before .pick-best-within-level .ensures) (reselect-level _ _ _ (sym (c .before .before .before .level .given .1) ∙ c .before .before .before .before .before .select-focus-level .ensures))
@@ -34,10 +22,10 @@ reselect-spec =
     tie.close
     (tie.spec
     select-focus-level-requires
-    enum-known-level
-    pick-best-within-level-requires
-    answer-requires
+    (λ c. search needs)
+    (λ c κs. tt)
+    (λ c κs. tt)
     enum-told
-    answer-requires-2
+    (λ c κs. tt)
     returns
     returns-2)

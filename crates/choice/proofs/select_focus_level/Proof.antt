@@ -4,15 +4,6 @@ use borrow.Author.Needs.{needs}
 use Rattle.choice.proofs.select_focus_level.Statement.{statement}
 use Rattle.choice.proofs.select_focus_level.Tie as tie
 
-last-best-requires : tie.Need-last-best-requires
-last-best-requires c κs = tt
-
-enum-known-place : tie.Need-enum-known-place
-enum-known-place c = search needs
-
-candidate-at-requires : tie.Need-candidate-at-requires
-candidate-at-requires c κs = tt
-
 cast-t9 : tie.Need-cast-t9
 cast-t9 c = rw (c .before .candidate-at .ensures) (omega (arith, c .before .before .before .before .before .before .before .before .pre (c .before .before .before .place .given .0 .0)))
 
@@ -29,9 +20,9 @@ pub select-focus-level-spec : {M : Type 1} → statement M
 select-focus-level-spec =
     tie.close
     (tie.spec
-    last-best-requires
-    enum-known-place
-    candidate-at-requires
+    (λ c κs. tt)
+    (λ c. search needs)
+    (λ c κs. tt)
     cast-t9
     enum-told
     returns

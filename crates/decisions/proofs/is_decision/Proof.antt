@@ -9,24 +9,6 @@ returns : tie.Need-returns
 unfolding isDecision
 returns c = simp (ne-eqb _ _ (c .if1 .taken))
 
-shared-slice-read-result : tie.Need-shared-slice-read-result
-shared-slice-read-result c = search needs
-
-shared-slice-read-result-2 : tie.Need-shared-slice-read-result-2
-shared-slice-read-result-2 c = search needs
-
-shared-slice-read-chosen-good : tie.Need-shared-slice-read-chosen-good
-shared-slice-read-chosen-good c = search needs
-
-shared-slice-read-chosen-good-2 : tie.Need-shared-slice-read-chosen-good-2
-shared-slice-read-chosen-good-2 c = search needs
-
-shared-slice-read-chosen-good-3 : tie.Need-shared-slice-read-chosen-good-3
-shared-slice-read-chosen-good-3 c = search needs
-
-chosen-good-requires : tie.Need-chosen-good-requires
-chosen-good-requires c κs = tt
-
 returns-2 : tie.Need-returns-2
 unfolding isDecision
 returns-2 c = rw (eq-eqb _ _ (c .before .before .before .before .before .before .if1 .left), c .chosen-good .ensures)
@@ -36,10 +18,10 @@ is-decision-spec =
     tie.close
     (tie.spec
     returns
-    shared-slice-read-result
-    shared-slice-read-result-2
-    shared-slice-read-chosen-good
-    shared-slice-read-chosen-good-2
-    shared-slice-read-chosen-good-3
-    chosen-good-requires
+    (λ c. search needs)
+    (λ c. search needs)
+    (λ c. search needs)
+    (λ c. search needs)
+    (λ c. search needs)
+    (λ c κs. tt)
     returns-2)

@@ -5,12 +5,6 @@ use borrow.Author.Needs.{needs}
 use Rattle.decisions.proofs.kind_of.Statement.{statement}
 use Rattle.decisions.proofs.kind_of.Tie as tie
 
-cast-t5 : tie.Need-cast-t5
-cast-t5 c = search needs
-
-cast-t6 : tie.Need-cast-t6
-cast-t6 c = search needs
-
 returns : tie.Need-returns
 unfolding kindFrom
 returns c = simp (c .match .keys1)
@@ -28,4 +22,4 @@ unfolding kindFrom
 returns-4 c = simp (ne-eqb _ _ (c .match .rest .0 .0 .1), ne-eqb _ _ (c .match .rest .0 .1), ne-eqb _ _ (c .match .rest .1))
 
 pub kind-of-spec : {M : Type 1} → statement M
-kind-of-spec = tie.close (tie.spec cast-t5 cast-t6 returns returns-2 returns-3 returns-4)
+kind-of-spec = tie.close (tie.spec (λ c. search needs) (λ c. search needs) returns returns-2 returns-3 returns-4)

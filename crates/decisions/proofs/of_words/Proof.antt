@@ -5,9 +5,6 @@ use Rattle.decisions.specs.Decision.{readOf}
 use Rattle.decisions.proofs.of_words.Statement.{statement}
 use Rattle.decisions.proofs.of_words.Tie as tie
 
-is-decision-requires : tie.Need-is-decision-requires
-is-decision-requires c κs = tt
-
 decision-in-requires : tie.Need-decision-in-requires
 decision-in-requires c κs = let g = good _ (sym (c .before .is-decision .ensures) ∙ c .if1 .taken) in (g .long, kind-small _ _ _ (g .kind) .1)
 
@@ -20,4 +17,4 @@ unfolding readOf
 returns-2 c = simp (sym (c .before .is-decision .ensures) ∙ c .if1 .left)
 
 pub of-words-spec : {M : Type 1} → statement M
-of-words-spec = tie.close (tie.spec is-decision-requires decision-in-requires returns returns-2)
+of-words-spec = tie.close (tie.spec (λ c κs. tt) decision-in-requires returns returns-2)

@@ -17,39 +17,6 @@ in-parts : (d : SchedulingDecision) {a b c e f g h i j k l : ℕ}
 unfolding decisionWords
 in-parts d a b c e f g h i j k l = rw (a, b, c, e, f, g, h, i, j, k, l)
 
-to-bits-requires : tie.Need-to-bits-requires
-to-bits-requires c κs = tt
-
-to-bits-requires-2 : tie.Need-to-bits-requires-2
-to-bits-requires-2 c κs = tt
-
-to-bits-requires-3 : tie.Need-to-bits-requires-3
-to-bits-requires-3 c κs = tt
-
-number-requires : tie.Need-number-requires
-number-requires c κs = tt
-
-number-requires-2 : tie.Need-number-requires-2
-number-requires-2 c κs = tt
-
-number-requires-3 : tie.Need-number-requires-3
-number-requires-3 c κs = tt
-
-level-requires : tie.Need-level-requires
-level-requires c κs = tt
-
-batch-len-requires : tie.Need-batch-len-requires
-batch-len-requires c κs = tt
-
-to-bits-requires-4 : tie.Need-to-bits-requires-4
-to-bits-requires-4 c κs = tt
-
-to-bits-requires-5 : tie.Need-to-bits-requires-5
-to-bits-requires-5 c κs = tt
-
-to-bits-requires-6 : tie.Need-to-bits-requires-6
-to-bits-requires-6 c κs = tt
-
 returns : tie.Need-returns
 returns c =
     in-parts (c .before .before .before .before .before .before .before .before .before .before .before .before .args .d) (c .before .before .before .before .before .before .before .before .before .before .to-bits .ensures) (c .before .before .before .before .before .before .before .before .before .to-bits2 .ensures) (c .before .before .before .before .before .before .before .before .to-bits3 .ensures) (c .before .before .before .before .before .before .before .number .ensures) (c .before .before .before .before .before .before .number2 .ensures) (c .before .before .before .before .before .number3 .ensures) (c .before .before .before .before .level .ensures) (c .before .before .before .batch-len .ensures) (c .before .before .to-bits4 .ensures) (c .before .to-bits5 .ensures) (c .to-bits6 .ensures)
@@ -58,15 +25,15 @@ pub to-words-spec : {M : Type 1} → statement M
 to-words-spec =
     tie.close
     (tie.spec
-    to-bits-requires
-    to-bits-requires-2
-    to-bits-requires-3
-    number-requires
-    number-requires-2
-    number-requires-3
-    level-requires
-    batch-len-requires
-    to-bits-requires-4
-    to-bits-requires-5
-    to-bits-requires-6
+    (λ c κs. tt)
+    (λ c κs. tt)
+    (λ c κs. tt)
+    (λ c κs. tt)
+    (λ c κs. tt)
+    (λ c κs. tt)
+    (λ c κs. tt)
+    (λ c κs. tt)
+    (λ c κs. tt)
+    (λ c κs. tt)
+    (λ c κs. tt)
     returns)

@@ -4,19 +4,10 @@ use Rattle.engine.specs.Engine.WindowFault.{sum-fits, refused-before, re
 use Rattle.engine.proofs.observe_engine.Statement.{statement}
 use Rattle.engine.proofs.observe_engine.Tie as tie
 
-window-fault-requires : tie.Need-window-fault-requires
-window-fault-requires c κs = tt
-
 probed-per-get-requires : tie.Need-probed-per-get-requires
 probed-per-get-requires c κs =
     let x = c .before .before .args in
     sum-fits source (x .s) (x .now) (x .e) (x .a) (c .before .window-fault .result) (c .before .window-fault .ensures) (c .if1 .taken)
-
-sample-requires : tie.Need-sample-requires
-sample-requires c κs = tt
-
-observe-requires : tie.Need-observe-requires
-observe-requires c κs = tt
 
 window-now-requires : tie.Need-window-now-requires
 window-now-requires c κs =
@@ -49,10 +40,10 @@ pub observe-engine-spec : {M : Type 1} → statement M
 observe-engine-spec =
     tie.close
     (tie.spec
-    window-fault-requires
+    (λ c κs. tt)
     probed-per-get-requires
-    sample-requires
-    observe-requires
+    (λ c κs. tt)
+    (λ c κs. tt)
     window-now-requires
     returns
     returns-2

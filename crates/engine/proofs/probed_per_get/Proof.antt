@@ -5,21 +5,6 @@ use borrow.Author.Needs.{needs}
 use Rattle.engine.proofs.probed_per_get.Statement.{statement}
 use Rattle.engine.proofs.probed_per_get.Tie as tie
 
-resolved-since-requires : tie.Need-resolved-since-requires
-resolved-since-requires c κs = tt
-
-add-saturating-sub : tie.Need-add-saturating-sub
-add-saturating-sub c = search needs
-
-saturating-sub-requires : tie.Need-saturating-sub-requires
-saturating-sub-requires c κs = tt
-
-of-u64-requires : tie.Need-of-u64-requires
-of-u64-requires c κs = tt
-
-of-u64-requires-2 : tie.Need-of-u64-requires-2
-of-u64-requires-2 c κs = tt
-
 returns : tie.Need-returns
 unfolding perGet
 returns c = simp (← c .before .before .before .before .before .resolved-since .ensures, lt-ltb _ _ (c .before .before .before .before .if1 .taken), c .of-u642 .ensures, c .before .of-u64 .ensures, c .before .before .saturating-sub .ensures)
@@ -32,10 +17,10 @@ pub probed-per-get-spec : {M : Type 1} → statement M
 probed-per-get-spec =
     tie.close
     (tie.spec
-    resolved-since-requires
-    add-saturating-sub
-    saturating-sub-requires
-    of-u64-requires
-    of-u64-requires-2
+    (λ c κs. tt)
+    (λ c. search needs)
+    (λ c κs. tt)
+    (λ c κs. tt)
+    (λ c κs. tt)
     returns
     returns-2)

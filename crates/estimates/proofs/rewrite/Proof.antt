@@ -7,11 +7,8 @@ use Rattle.estimates.proofs.rewrite.Tie as tie
 returns : tie.Need-returns
 returns c = rw (eq-eqb _ _ (c .if1 .taken))
 
-add-result : tie.Need-add-result
-add-result c = search needs
-
 returns-2 : tie.Need-returns-2
 returns-2 c = rw (ne-eqb _ _ (c .before .if1 .left))
 
 pub rewrite-spec : {M : Type 1} → statement M
-rewrite-spec = tie.close (tie.spec returns add-result returns-2)
+rewrite-spec = tie.close (tie.spec returns (λ c. search needs) returns-2)

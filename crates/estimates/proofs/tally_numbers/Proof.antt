@@ -31,21 +31,6 @@ size c = small-found _ _ _ (c .before .before .before .before .before .before .b
 loop-holds : tie.Need-loop-holds Inv-loop μ-loop
 loop-holds c = (omega arith, omega arith, omega arith, tally-is _ _ _)
 
-mul-find : tie.Need-mul-find Inv-loop μ-loop
-mul-find c = search needs
-
-shared-slice-read-find : tie.Need-shared-slice-read-find Inv-loop μ-loop
-shared-slice-read-find c = search needs
-
-find-requires : tie.Need-find-requires Inv-loop μ-loop
-find-requires c κs = tt
-
-add-i : tie.Need-add-i Inv-loop μ-loop
-add-i c = search needs
-
-enum-known-looked-up : tie.Need-enum-known-looked-up Inv-loop μ-loop
-enum-known-looked-up c = search needs
-
 with-table-requires : tie.Need-with-table-requires Inv-loop μ-loop
 with-table-requires c κs = (omega arith, omega arith, size c)
 
@@ -86,11 +71,11 @@ tally-numbers-spec =
     Inv-loop
     μ-loop
     loop-holds
-    mul-find
-    shared-slice-read-find
-    find-requires
-    add-i
-    enum-known-looked-up
+    (λ c. search needs)
+    (λ c. search needs)
+    (λ c κs. tt)
+    (λ c. search needs)
+    (λ c. search needs)
     with-table-requires
     loop-less
     loop-again

@@ -38,14 +38,8 @@ module _ (ts : List Table) (next : ℕ) (es : List Entry) (ns : List ℕ) (cs : 
   one-more old whole out new ws e k f h x y z w =
       fill-part old 0 whole out (i * 9) (words (candidateAt cs i)) _ new _ (rw (flat-more words cs i noCandidate h) at f) (record { ends = omega arith; stands = rw (w, z, y, x) })
 
-candidate-count-requires : tie.Need-candidate-count-requires Inv-loop μ-loop
-candidate-count-requires c κs = tt
-
 loop-holds : tie.Need-loop-holds Inv-loop μ-loop
 loop-holds c = (omega arith, fill-start _ _ _)
-
-candidate-at-requires : tie.Need-candidate-at-requires Inv-loop μ-loop
-candidate-at-requires c κs = tt
 
 estimate-candidate-requires : tie.Need-estimate-candidate-requires Inv-loop μ-loop
 estimate-candidate-requires c κs = rw (c .candidate-at .ensures) (c .before .before .before .before .before .before .before .before .before .pre .sound _ (omega arith))
@@ -53,27 +47,12 @@ estimate-candidate-requires c κs = rw (c .candidate-at .ensures) (c .before .be
 mul-put-words : tie.Need-mul-put-words Inv-loop μ-loop
 mul-put-words c = omega (arith, c .before .before .before .before .before .before .before .before .before .before .before .before .pre .fits, c .before .before .before .before .before .before .before .before .before .before .before .before .good)
 
-nine-words-requires : tie.Need-nine-words-requires Inv-loop μ-loop
-nine-words-requires c κs = tt
-
-slice-aggregate-put-words : tie.Need-slice-aggregate-put-words Inv-loop μ-loop
-slice-aggregate-put-words c = search needs
-
-put-words-requires : tie.Need-put-words-requires Inv-loop μ-loop
-put-words-requires c κs = tt
-
-add-i : tie.Need-add-i Inv-loop μ-loop
-add-i c = search needs
-
 loop-less : tie.Need-loop-less Inv-loop μ-loop
 loop-less c = search needs
 
 loop-again : tie.Need-loop-again Inv-loop μ-loop
 loop-again c = let a = c .before .before .before .before .before .before .before .before .before .before .before .before .before .before .before .before .args in let l = c .before .before .before .before .before .before .before .before .before .loop in
     (omega arith, one-more (tablesOf (now (a .tables))) (a .next) (entriesOf (now (a .over))) (now (a .numbers)) (candidatesOf (now (a .candidates))) (l .i) _ _ _ _ _ _ _ (l .inv .1) (omega arith) (c .before .before .before .before .before .before .before .candidate-at .ensures) (c .before .before .before .before .before .before .estimate-candidate .ensures) (c .before .before .before .before .before .nine-words .ensures) (c .before .before .put-words .ensures))
-
-same-length : tie.Need-same-length Inv-loop μ-loop
-same-length c = search needs
 
 returns : tie.Need-returns Inv-loop μ-loop
 returns c = let a = c .before .before .before .before .before .before .before .before .args in
@@ -86,16 +65,16 @@ write-estimates-spec =
     (tie.spec
     Inv-loop
     μ-loop
-    candidate-count-requires
+    (λ c κs. tt)
     loop-holds
-    candidate-at-requires
+    (λ c κs. tt)
     estimate-candidate-requires
-    nine-words-requires
+    (λ c κs. tt)
     mul-put-words
-    slice-aggregate-put-words
-    put-words-requires
-    add-i
+    (λ c. search needs)
+    (λ c κs. tt)
+    (λ c. search needs)
     loop-less
     loop-again
-    same-length
+    (λ c. search needs)
     returns)

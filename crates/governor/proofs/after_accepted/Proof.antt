@@ -6,18 +6,6 @@ use mathlib.Core.Path.{sym, _∙_}
 use Rattle.governor.proofs.after_accepted.Statement.{statement}
 use Rattle.governor.proofs.after_accepted.Tie as tie
 
-next-requires : tie.Need-next-requires
-next-requires c κs = tt
-
-signals-after-requires : tie.Need-signals-after-requires
-signals-after-requires c κs = tt
-
-times-after-requires : tie.Need-times-after-requires
-times-after-requires c κs = tt
-
-are-different-requires : tie.Need-are-different-requires
-are-different-requires c κs = tt
-
 with-switch-requires : tie.Need-with-switch-requires
 with-switch-requires c κs =
     let i = c .before .before .before .before .before .before .before in
@@ -31,9 +19,9 @@ pub after-accepted-spec : {M : Type 1} → statement M
 after-accepted-spec =
     tie.close
     (tie.spec
-    next-requires
-    signals-after-requires
-    times-after-requires
-    are-different-requires
+    (λ c κs. tt)
+    (λ c κs. tt)
+    (λ c κs. tt)
+    (λ c κs. tt)
     with-switch-requires
     returns)

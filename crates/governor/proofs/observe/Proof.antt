@@ -7,9 +7,6 @@ use mathlib.Core.Path.{sym, _∙_}
 use Rattle.governor.proofs.observe.Statement.{statement}
 use Rattle.governor.proofs.observe.Tie as tie
 
-observe-fault-requires : tie.Need-observe-fault-requires
-observe-fault-requires c κs = tt
-
 after-accepted-requires : tie.Need-after-accepted-requires
 unfolding observeFault
 after-accepted-requires c κs =
@@ -25,4 +22,4 @@ unfolding observedOf
 returns-2 c = simp (← c .before .observe-fault .ensures, ne-eqb _ _ (c .if1 .left))
 
 pub observe-spec : {M : Type 1} → statement M
-observe-spec = tie.close (tie.spec observe-fault-requires after-accepted-requires returns returns-2)
+observe-spec = tie.close (tie.spec (λ c κs. tt) after-accepted-requires returns returns-2)

@@ -3,22 +3,13 @@ use Rattle.governor.specs.Observe.{observeFault}
 use Rattle.governor.proofs.observe_fault.Statement.{statement}
 use Rattle.governor.proofs.observe_fault.Tie as tie
 
-is-sound-requires : tie.Need-is-sound-requires
-is-sound-requires c κs = tt
-
 returns : tie.Need-returns
 unfolding observeFault
 returns c = simp (← c .before .is-sound .ensures, c .if1 .taken)
 
-any-large-requires : tie.Need-any-large-requires
-any-large-requires c κs = tt
-
 returns-2 : tie.Need-returns-2
 unfolding observeFault
 returns-2 c = simp (← c .before .before .before .is-sound .ensures, c .before .before .if1 .left, ← c .before .any-large .ensures, c .if2 .taken)
-
-counters-full-requires : tie.Need-counters-full-requires
-counters-full-requires c κs = tt
 
 returns-3 : tie.Need-returns-3
 unfolding observeFault
@@ -32,10 +23,10 @@ pub observe-fault-spec : {M : Type 1} → statement M
 observe-fault-spec =
     tie.close
     (tie.spec
-    is-sound-requires
+    (λ c κs. tt)
     returns
-    any-large-requires
+    (λ c κs. tt)
     returns-2
-    counters-full-requires
+    (λ c κs. tt)
     returns-3
     returns-4)

@@ -36,9 +36,6 @@ there c =
     let a = c .before .before .before .before .before .before .before .before .before .before .before .args in
     l0-due (now (a .tables)) (now (a .keys)) (a .trigger) _ true (few (c .before .before .before .before .before)) (c .before .before .before .level-places .ensures .0) (sym (not-false _ (c .if2 .left)) ∙ c .before .due .ensures)
 
-too-many-tables-requires : tie.Need-too-many-tables-requires
-too-many-tables-requires c κs = tt
-
 returns : tie.Need-returns
 returns c = let a = c .before .before .before .before .before .before .args in
     rw (l0-past (now (a .tables)) (now (a .keys)) (a .trigger) (sym (c .before .too-many-tables .ensures) ∙ c .if1 .taken)) (written-none _ _ _)
@@ -46,21 +43,12 @@ returns c = let a = c .before .before .before .before .before .before .args in
 slice-aggregate-level-places : tie.Need-slice-aggregate-level-places
 slice-aggregate-level-places c = refl
 
-level-places-requires : tie.Need-level-places-requires
-level-places-requires c κs = tt
-
-due-requires : tie.Need-due-requires
-due-requires c κs = tt
-
 returns-2 : tie.Need-returns-2
 returns-2 c = let a = c .before .before .before .before .before .before .before .before .before .before .before .args in
     rw (l0-due (now (a .tables)) (now (a .keys)) (a .trigger) _ false (few (c .before .before .before .before .before)) (c .before .before .before .level-places .ensures .0) (sym (not-true _ (c .if2 .taken)) ∙ c .before .due .ensures)) (written-none _ _ _)
 
 slice-aggregate-level-places-2 : tie.Need-slice-aggregate-level-places-2
 slice-aggregate-level-places-2 c = refl
-
-level-places-requires-2 : tie.Need-level-places-requires-2
-level-places-requires-2 c κs = tt
 
 array-share-prefix-places : tie.Need-array-share-prefix-places
 array-share-prefix-places c = first (c .before .before .before .before .before .before) .within
@@ -74,20 +62,8 @@ array-share-prefix-next c = second (c .before .before) .within
 slice-aggregate-put-many-2 : tie.Need-slice-aggregate-put-many-2
 slice-aggregate-put-many-2 c = second (c .before .before .before) .long
 
-put-many-requires : tie.Need-put-many-requires
-put-many-requires c κs = tt
-
 slice-aggregate-put-words : tie.Need-slice-aggregate-put-words
 slice-aggregate-put-words c = refl
-
-put-words-requires : tie.Need-put-words-requires
-put-words-requires c κs = tt
-
-same-length : tie.Need-same-length
-same-length c = search needs
-
-same-length-2 : tie.Need-same-length-2
-same-length-2 c = search needs
 
 returns-3 : tie.Need-returns-3
 returns-3 c =
@@ -98,21 +74,21 @@ pub put-l0-spec : {M : Type 1} → statement M
 put-l0-spec =
     tie.close
     (tie.spec
-    too-many-tables-requires
+    (λ c κs. tt)
     returns
     slice-aggregate-level-places
-    level-places-requires
-    due-requires
+    (λ c κs. tt)
+    (λ c κs. tt)
     returns-2
     slice-aggregate-level-places-2
-    level-places-requires-2
+    (λ c κs. tt)
     array-share-prefix-places
     slice-aggregate-put-many
     array-share-prefix-next
     slice-aggregate-put-many-2
-    put-many-requires
+    (λ c κs. tt)
     slice-aggregate-put-words
-    put-words-requires
-    same-length
-    same-length-2
+    (λ c κs. tt)
+    (λ c. search needs)
+    (λ c. search needs)
     returns-3)

@@ -24,22 +24,13 @@ Inv-loop tables number n i₀ i = (i ≤ length (tablesOf tables)) × (filterOf 
 abbrev μ-loop : tie.MeasureT-loop
 μ-loop tables number n i₀ i = length (tablesOf tables) - i
 
-table-count-requires : tie.Need-table-count-requires Inv-loop μ-loop
-table-count-requires c κs = tt
-
 loop-holds : tie.Need-loop-holds Inv-loop μ-loop
 loop-holds c = (omega arith, refl)
-
-table-at-requires : tie.Need-table-at-requires Inv-loop μ-loop
-table-at-requires c κs = tt
 
 returns : tie.Need-returns Inv-loop μ-loop
 unfolding lookup
 returns c = let a = c .before .before .before .before .before .before .before .args in let l = c .before .before .before .before .loop in let t = c .before .before .table-at .ensures in
     rw (t, l .inv .1, filter-keep (hasNumber (a .number)) (tablesOf (now (a .tables))) (l .i) noTable (omega arith) (rw t at (eq-eqb _ _ (c .if1 .taken))))
-
-add-i : tie.Need-add-i Inv-loop μ-loop
-add-i c = search needs
 
 loop-less : tie.Need-loop-less Inv-loop μ-loop
 loop-less c = search needs
@@ -58,11 +49,11 @@ find-spec =
     (tie.spec
     Inv-loop
     μ-loop
-    table-count-requires
+    (λ c κs. tt)
     loop-holds
-    table-at-requires
+    (λ c κs. tt)
     returns
-    add-i
+    (λ c. search needs)
     loop-less
     loop-again
     returns-2)

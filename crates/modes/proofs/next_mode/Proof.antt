@@ -6,67 +6,22 @@ use Rattle.modes.specs.Mode.Windows.{as-whole}
 use Rattle.modes.proofs.next_mode.Statement.{statement}
 use Rattle.modes.proofs.next_mode.Tie as tie
 
-emergency-now-requires : tie.Need-emergency-now-requires
-emergency-now-requires c κs = tt
-
 enum-told : tie.Need-enum-told
 enum-told c = c .match .keys1
 
-has-recovered-requires : tie.Need-has-recovered-requires
-has-recovered-requires c κs = tt
-
-streak-requires : tie.Need-streak-requires
-streak-requires c κs = tt
-
-keep-mode-requires : tie.Need-keep-mode-requires
-keep-mode-requires c κs = tt
-
-ended-requires : tie.Need-ended-requires
-ended-requires c κs = tt
-
 enum-told-2 : tie.Need-enum-told-2
 enum-told-2 c = c .match .keys2
-
-switch-to-requires : tie.Need-switch-to-requires
-switch-to-requires c κs = tt
 
 returns : tie.Need-returns
 unfolding nextModeOf
 returns c = simp (c .before .before .enum-told2 .given .1, c .switch-to .ensures, ← c .before .before .before .before .emergency-now .ensures, c .before .if1 .taken)
 
-is-high-requires : tie.Need-is-high-requires
-is-high-requires c κs = tt
-
-streak-requires-2 : tie.Need-streak-requires-2
-streak-requires-2 c κs = tt
-
-keep-mode-requires-2 : tie.Need-keep-mode-requires-2
-keep-mode-requires-2 c κs = tt
-
-ended-requires-2 : tie.Need-ended-requires-2
-ended-requires-2 c κs = tt
-
 enum-told-3 : tie.Need-enum-told-3
 enum-told-3 c = c .match .keys3
-
-switch-to-requires-2 : tie.Need-switch-to-requires-2
-switch-to-requires-2 c κs = tt
 
 returns-2 : tie.Need-returns-2
 unfolding nextModeOf
 returns-2 c = simp (c .before .before .enum-told3 .given .1, c .switch-to2 .ensures, ← c .before .before .before .before .emergency-now .ensures, c .before .if2 .taken)
-
-is-calm-requires : tie.Need-is-calm-requires
-is-calm-requires c κs = tt
-
-streak-requires-3 : tie.Need-streak-requires-3
-streak-requires-3 c κs = tt
-
-keep-mode-requires-3 : tie.Need-keep-mode-requires-3
-keep-mode-requires-3 c κs = tt
-
-ended-requires-3 : tie.Need-ended-requires-3
-ended-requires-3 c κs = tt
 
 returns-3 : tie.Need-returns-3
 unfolding nextModeOf
@@ -87,26 +42,26 @@ pub next-mode-spec : {M : Type 1} → statement M
 next-mode-spec =
     tie.close
     (tie.spec
-    emergency-now-requires
+    (λ c κs. tt)
     enum-told
-    has-recovered-requires
-    streak-requires
-    keep-mode-requires
-    ended-requires
+    (λ c κs. tt)
+    (λ c κs. tt)
+    (λ c κs. tt)
+    (λ c κs. tt)
     enum-told-2
-    switch-to-requires
+    (λ c κs. tt)
     returns
-    is-high-requires
-    streak-requires-2
-    keep-mode-requires-2
-    ended-requires-2
+    (λ c κs. tt)
+    (λ c κs. tt)
+    (λ c κs. tt)
+    (λ c κs. tt)
     enum-told-3
-    switch-to-requires-2
+    (λ c κs. tt)
     returns-2
-    is-calm-requires
-    streak-requires-3
-    keep-mode-requires-3
-    ended-requires-3
+    (λ c κs. tt)
+    (λ c κs. tt)
+    (λ c κs. tt)
+    (λ c κs. tt)
     returns-3
     returns-4
     returns-5)

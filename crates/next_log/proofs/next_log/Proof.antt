@@ -4,21 +4,12 @@ use borrow.Author.Needs.{needs}
 use Rattle.next_log.proofs.next_log.Statement.{statement}
 use Rattle.next_log.proofs.next_log.Tie as tie
 
-next-sequence-requires : tie.Need-next-sequence-requires
-next-sequence-requires c κs = tt
-
-add-t4 : tie.Need-add-t4
-add-t4 c = search needs
-
 returns : tie.Need-returns
 returns c = simp (lt-ltb _ _ (c .before .if1 .taken), c .before .before .before .next-sequence .ensures)
-
-kept-place-requires : tie.Need-kept-place-requires
-kept-place-requires c κs = tt
 
 returns-2 : tie.Need-returns-2
 returns-2 c = simp (le-ltb _ _ (c .before .if1 .left), c .before .before .before .next-sequence .ensures, c .kept-place .ensures)
 
 pub next-log-spec : {M : Type 1} → statement M
 next-log-spec =
-    tie.close (tie.spec next-sequence-requires add-t4 returns kept-place-requires returns-2)
+    tie.close (tie.spec (λ c κs. tt) (λ c. search needs) returns (λ c κs. tt) returns-2)

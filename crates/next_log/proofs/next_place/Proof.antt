@@ -4,9 +4,6 @@ use borrow.Author.Tests.{lt-ltb, le-ltb}
 use Rattle.next_log.proofs.next_place.Statement.{statement}
 use Rattle.next_log.proofs.next_place.Tie as tie
 
-kept-place-requires : tie.Need-kept-place-requires
-kept-place-requires c κs = tt
-
 returns : tie.Need-returns
 unfolding nextPlace
 returns c = simp (lt-ltb _ _ (c .before .if1 .taken)) (c .kept-place .ensures)
@@ -16,4 +13,4 @@ unfolding nextPlace
 returns-2 c = simp (le-ltb _ _ (c .if1 .left))
 
 pub next-place-spec : {M : Type 1} → statement M
-next-place-spec = tie.close (tie.spec kept-place-requires returns returns-2)
+next-place-spec = tie.close (tie.spec (λ c κs. tt) returns returns-2)

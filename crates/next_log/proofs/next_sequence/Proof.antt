@@ -3,9 +3,6 @@ use native.Mathlib.Omega.{arith}
 use Rattle.next_log.proofs.next_sequence.Statement.{statement}
 use Rattle.next_log.proofs.next_sequence.Tie as tie
 
-add-result : tie.Need-add-result
-add-result c = omega arith
-
 returns : tie.Need-returns
 returns c = omega arith
 
@@ -13,4 +10,4 @@ returns-2 : tie.Need-returns-2
 returns-2 c = omega arith
 
 pub next-sequence-spec : {M : Type 1} → statement M
-next-sequence-spec = tie.close (tie.spec add-result returns returns-2)
+next-sequence-spec = tie.close (tie.spec (λ c. omega arith) returns returns-2)

@@ -4,12 +4,6 @@ use borrow.Author.Tests.{lt-ltb, le-ltb}
 use Rattle.pressure.proofs.l0_fraction.Statement.{statement}
 use Rattle.pressure.proofs.l0_fraction.Tie as tie
 
-of-u64-requires : tie.Need-of-u64-requires
-of-u64-requires c κs = tt
-
-of-u64-requires-2 : tie.Need-of-u64-requires-2
-of-u64-requires-2 c κs = tt
-
 returns : tie.Need-returns
 unfolding fractionOf
 returns c = simp (lt-ltb _ _ (c .before .before .if1 .taken), c .before .of-u64 .ensures, c .of-u642 .ensures)
@@ -19,4 +13,4 @@ unfolding fractionOf
 returns-2 c = simp (le-ltb _ _ (c .if1 .left))
 
 pub l0-fraction-spec : {M : Type 1} → statement M
-l0-fraction-spec = tie.close (tie.spec of-u64-requires of-u64-requires-2 returns returns-2)
+l0-fraction-spec = tie.close (tie.spec (λ c κs. tt) (λ c κs. tt) returns returns-2)

@@ -2,11 +2,8 @@
 use Rattle.pressure.proofs.share.Statement.{statement}
 use Rattle.pressure.proofs.share.Tie as tie
 
-minimum-requires : tie.Need-minimum-requires
-minimum-requires c κs = tt
-
 returns : tie.Need-returns
 returns c = c .minimum .ensures
 
 pub share-spec : {M : Type 1} → statement M
-share-spec = tie.close (tie.spec minimum-requires returns)
+share-spec = tie.close (tie.spec (λ c κs. tt) returns)

@@ -23,9 +23,6 @@ Inv-loop log words out₀ refusal count k₀ out k =
 abbrev μ-loop : tie.MeasureT-loop
 μ-loop log words out₀ refusal count k₀ out k = count - k
 
-recent-fault-requires : tie.Need-recent-fault-requires Inv-loop μ-loop
-recent-fault-requires c κs = tt
-
 returns : tie.Need-returns Inv-loop μ-loop
 unfolding recentOf recentOut
 returns c = let f = c .before .recent-fault .ensures in let e = ne-eqb _ _ (c .if1 .taken) in (simp (← f, e), simp (← f, e))
@@ -33,35 +30,11 @@ returns c = let f = c .before .recent-fault .ensures in let e = ne-eqb _ _ (c .i
 loop-holds : tie.Need-loop-holds Inv-loop μ-loop
 loop-holds c = (omega arith, rw sub-zero (fill-start _ _ _))
 
-kept-place-requires : tie.Need-kept-place-requires Inv-loop μ-loop
-kept-place-requires c κs = tt
-
-mul-from : tie.Need-mul-from Inv-loop μ-loop
-mul-from c = omega arith
-
-add-end : tie.Need-add-end Inv-loop μ-loop
-add-end c = omega arith
-
 mul-at : tie.Need-mul-at Inv-loop μ-loop
 mul-at c = let i = c .before .before .before in let s = recent-sound _ _ _ (sym (i .before .recent-fault .ensures) ∙ i .if1 .left) in omega arith
 
-mul-put-words : tie.Need-mul-put-words Inv-loop μ-loop
-mul-put-words c = search needs
-
-sub-put-words : tie.Need-sub-put-words Inv-loop μ-loop
-sub-put-words c = search needs
-
-part-put-words-start : tie.Need-part-put-words-start Inv-loop μ-loop
-part-put-words-start c = search needs
-
 part-put-words-end : tie.Need-part-put-words-end Inv-loop μ-loop
 part-put-words-end c = let i = c .before .before .before .before in let s = recent-sound _ _ _ (sym (i .before .recent-fault .ensures) ∙ i .if1 .left) in omega arith
-
-put-words-requires : tie.Need-put-words-requires Inv-loop μ-loop
-put-words-requires c κs = tt
-
-add-k : tie.Need-add-k Inv-loop μ-loop
-add-k c = search needs
 
 loop-less : tie.Need-loop-less Inv-loop μ-loop
 loop-less c = search needs
@@ -76,9 +49,6 @@ loop-again c = let d = c .before .before in let p = c .before .before .before .b
       fill-part _ _ _ _ _ (placeWords (now (a .words)) (keptPlace (a .log) (l .loop .k))) _ _ _ (rw (kept-next _ _ _ _ (t .loop-test .taken)) at (l .loop .inv .1))
           (record { ends = omega arith; stands = d .put-words .ensures ∙ rw (e, p .kept-place .ensures) }),
     )
-
-same-length : tie.Need-same-length Inv-loop μ-loop
-same-length c = search needs
 
 returns-2 : tie.Need-returns-2 Inv-loop μ-loop
 unfolding recentOf recentOut
@@ -98,20 +68,20 @@ recent-decisions-spec =
     (tie.spec
     Inv-loop
     μ-loop
-    recent-fault-requires
+    (λ c κs. tt)
     returns
     loop-holds
-    kept-place-requires
-    mul-from
-    add-end
+    (λ c κs. tt)
+    (λ c. omega arith)
+    (λ c. omega arith)
     mul-at
-    mul-put-words
-    sub-put-words
-    part-put-words-start
+    (λ c. search needs)
+    (λ c. search needs)
+    (λ c. search needs)
     part-put-words-end
-    put-words-requires
-    add-k
+    (λ c κs. tt)
+    (λ c. search needs)
     loop-less
     loop-again
-    same-length
+    (λ c. search needs)
     returns-2)

@@ -7,9 +7,6 @@ use native.Mathlib.Omega.{arith}
 use Rattle.recent.proofs.recent_fault.Statement.{statement}
 use Rattle.recent.proofs.recent_fault.Tie as tie
 
-log-bad-requires : tie.Need-log-bad-requires
-log-bad-requires c κs = tt
-
 returns : tie.Need-returns
 unfolding recentFault
 returns c = simp (sym (c .before .log-bad .ensures) ∙ c .if1 .taken)
@@ -26,4 +23,4 @@ unfolding recentFault
 returns-3 c = simp (sym (c .before .before .log-bad .ensures) ∙ c .before .if1 .left, le-ltb _ _ (c .if2 .left))
 
 pub recent-fault-spec : {M : Type 1} → statement M
-recent-fault-spec = tie.close (tie.spec log-bad-requires returns mul-if2 returns-2 returns-3)
+recent-fault-spec = tie.close (tie.spec (λ c κs. tt) returns mul-if2 returns-2 returns-3)

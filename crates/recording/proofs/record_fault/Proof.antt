@@ -4,9 +4,6 @@ use mathlib.Core.Path.{sym, _∙_}
 use Rattle.recording.proofs.record_fault.Statement.{statement}
 use Rattle.recording.proofs.record_fault.Tie as tie
 
-log-bad-requires : tie.Need-log-bad-requires
-log-bad-requires c κs = tt
-
 returns : tie.Need-returns
 unfolding recordFault
 returns c = simp (sym (c .before .log-bad .ensures) ∙ c .if1 .taken)
@@ -16,4 +13,4 @@ unfolding recordFault
 returns-2 c = simp (sym (c .before .log-bad .ensures) ∙ c .if1 .left)
 
 pub record-fault-spec : {M : Type 1} → statement M
-record-fault-spec = tie.close (tie.spec log-bad-requires returns returns-2)
+record-fault-spec = tie.close (tie.spec (λ c κs. tt) returns returns-2)

@@ -24,28 +24,13 @@ Inv-loop tables over level bytes n i₀ i = (i ≤ length (entriesOf over)) × (
 abbrev μ-loop : tie.MeasureT-loop
 μ-loop tables over level bytes n i₀ i = length (entriesOf over) - i
 
-entry-count-requires : tie.Need-entry-count-requires Inv-loop μ-loop
-entry-count-requires c κs = tt
-
 loop-holds : tie.Need-loop-holds Inv-loop μ-loop
 loop-holds c = (omega arith, refl)
-
-entry-at-requires : tie.Need-entry-at-requires Inv-loop μ-loop
-entry-at-requires c κs = tt
-
-level-bytes-requires : tie.Need-level-bytes-requires Inv-loop μ-loop
-level-bytes-requires c κs = tt
-
-share-requires : tie.Need-share-requires Inv-loop μ-loop
-share-requires c κs = tt
 
 returns : tie.Need-returns Inv-loop μ-loop
 unfolding firstShare
 returns c = let a = c .before .before .before .before .before .before .before .before .before .before .args in let l = c .before .before .before .before .before .before .loop in let e = c .before .before .before .before .entry-at .ensures in
     c .share .ensures ∙ rw (c .before .level-bytes .ensures, e, l .inv .1, filter-keep (hasLevel (a .level)) (entriesOf (now (a .over))) (l .i) noEntry (omega arith) (rw e at (eq-eqb _ _ (c .before .before .if1 .taken))))
-
-add-i : tie.Need-add-i Inv-loop μ-loop
-add-i c = search needs
 
 loop-less : tie.Need-loop-less Inv-loop μ-loop
 loop-less c = search needs
@@ -64,13 +49,13 @@ debt-relief-spec =
     (tie.spec
     Inv-loop
     μ-loop
-    entry-count-requires
+    (λ c κs. tt)
     loop-holds
-    entry-at-requires
-    level-bytes-requires
-    share-requires
+    (λ c κs. tt)
+    (λ c κs. tt)
+    (λ c κs. tt)
     returns
-    add-i
+    (λ c. search needs)
     loop-less
     loop-again
     returns-2)

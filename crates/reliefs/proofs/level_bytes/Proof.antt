@@ -29,20 +29,8 @@ abbrev μ-loop : tie.MeasureT-loop
 on-the-way : (a b rest : ℕ) → saturatingAdd a (b + rest) ≡ saturatingAdd (saturatingAdd a b) rest
 on-the-way a b rest = omega arith
 
-table-count-requires : tie.Need-table-count-requires Inv-loop μ-loop
-table-count-requires c κs = tt
-
 loop-holds : tie.Need-loop-holds Inv-loop μ-loop
 loop-holds c = (omega arith, omega arith, omega arith)
-
-table-at-requires : tie.Need-table-at-requires Inv-loop μ-loop
-table-at-requires c κs = tt
-
-add-i : tie.Need-add-i Inv-loop μ-loop
-add-i c = search needs
-
-saturating-add-requires : tie.Need-saturating-add-requires Inv-loop μ-loop
-saturating-add-requires c κs = tt
 
 loop-less : tie.Need-loop-less Inv-loop μ-loop
 loop-less c = search needs
@@ -70,11 +58,11 @@ level-bytes-spec =
     (tie.spec
     Inv-loop
     μ-loop
-    table-count-requires
+    (λ c κs. tt)
     loop-holds
-    table-at-requires
-    add-i
-    saturating-add-requires
+    (λ c κs. tt)
+    (λ c. search needs)
+    (λ c κs. tt)
     loop-less
     loop-again
     loop-less-2

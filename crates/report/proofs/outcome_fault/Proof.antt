@@ -5,12 +5,6 @@ use native.Mathlib.Omega.{arith}
 use Rattle.report.proofs.outcome_fault.Statement.{statement}
 use Rattle.report.proofs.outcome_fault.Tie as tie
 
-is-large-requires : tie.Need-is-large-requires
-is-large-requires c κs = tt
-
-is-large-requires-2 : tie.Need-is-large-requires-2
-is-large-requires-2 c κs = tt
-
 returns : tie.Need-returns
 returns c = simp (← c .before .before .is-large .ensures, ← c .before .is-large2 .ensures, c .if1 .taken)
 
@@ -21,4 +15,4 @@ returns-3 : tie.Need-returns-3
 returns-3 c = simp (← c .before .before .before .before .is-large .ensures, ← c .before .before .before .is-large2 .ensures, c .before .before .if1 .left, full-is (c .before .before .before .before .before .args .s .counters .«predicted_actual_samples») (omega (arith, c .before .struct-known .given .1 .1 .1 .1 .1 .1 .0)), ne-eqb _ _ (c .if2 .left))
 
 pub outcome-fault-spec : {M : Type 1} → statement M
-outcome-fault-spec = tie.close (tie.spec is-large-requires is-large-requires-2 returns returns-2 returns-3)
+outcome-fault-spec = tie.close (tie.spec (λ c κs. tt) (λ c κs. tt) returns returns-2 returns-3)

@@ -22,15 +22,6 @@ others s (TrivialMove level) h = refl
 others s (LevelBatch level n) (inl e) = absurd (omega arith)
 others s (LevelBatch level n) (inr e) = absurd (omega arith)
 
-enum-known-kind : tie.Need-enum-known-kind
-enum-known-kind c = search needs
-
-saturating-add-requires : tie.Need-saturating-add-requires
-saturating-add-requires c κs = tt
-
-saturating-add-requires-2 : tie.Need-saturating-add-requires-2
-saturating-add-requires-2 c κs = tt
-
 returns : tie.Need-returns
 unfolding chosenOf
 returns c = simp (c .before .before .before .before .before .kind .given .1, c .before .before .saturating-add2 .ensures, c .before .before .before .saturating-add .ensures)
@@ -41,4 +32,4 @@ returns-2 c = others (c .before .args .s) (c .before .args .kind) (c .match .key
 pub record-candidate-chosen-spec : {M : Type 1} → statement M
 record-candidate-chosen-spec =
     tie.close
-    (tie.spec enum-known-kind saturating-add-requires saturating-add-requires-2 returns returns-2)
+    (tie.spec (λ c. search needs) (λ c κs. tt) (λ c κs. tt) returns returns-2)

@@ -8,12 +8,6 @@ use native.Mathlib.Omega.{arith}
 use Rattle.report.proofs.with_outcome.Statement.{statement}
 use Rattle.report.proofs.with_outcome.Tie as tie
 
-outcome-fault-requires : tie.Need-outcome-fault-requires
-outcome-fault-requires c κs = tt
-
-error-requires : tie.Need-error-requires
-error-requires c κs = tt
-
 add-samples : tie.Need-add-samples
 add-samples c =
     let a = c .before .before .before .before .before .args in
@@ -30,4 +24,4 @@ returns-2 c = simp (← c .before .outcome-fault .ensures, ne-eqb _ _ (c .if1 .l
 
 pub with-outcome-spec : {M : Type 1} → statement M
 with-outcome-spec =
-    tie.close (tie.spec outcome-fault-requires error-requires add-samples returns returns-2)
+    tie.close (tie.spec (λ c κs. tt) (λ c κs. tt) add-samples returns returns-2)

@@ -13,12 +13,9 @@ returns c = simp (full-is (c .before .before .args .s .counters .«trivial_moves
 add-moves : tie.Need-add-moves
 add-moves c = omega (arith, c .before .before .struct-known .given .1 .1 .1 .1 .1 .1 .0)
 
-saturating-add-requires : tie.Need-saturating-add-requires
-saturating-add-requires c κs = tt
-
 returns-2 : tie.Need-returns-2
 unfolding trivialMoveOf
 returns-2 c = simp (full-is (c .before .before .before .before .before .before .args .s .counters .«trivial_moves_performed») (omega (arith, c .before .before .before .before .before .struct-known .given .1 .1 .1 .1 .1 .1 .0)), ne-eqb _ _ (c .before .before .before .before .if1 .left), c .before .before .saturating-add .ensures)
 
 pub with-trivial-move-spec : {M : Type 1} → statement M
-with-trivial-move-spec = tie.close (tie.spec returns add-moves saturating-add-requires returns-2)
+with-trivial-move-spec = tie.close (tie.spec returns add-moves (λ c κs. tt) returns-2)

@@ -3,19 +3,10 @@ use Rattle.scores.specs.Score.{benefitOf, scoreOf}
 use Rattle.scores.proofs.cause_aware_score.Statement.{statement}
 use Rattle.scores.proofs.cause_aware_score.Tie as tie
 
-at-least-one-requires : tie.Need-at-least-one-requires
-at-least-one-requires c κs = tt
-
-sqrt-requires : tie.Need-sqrt-requires
-sqrt-requires c κs = tt
-
-ln-1p-requires : tie.Need-ln-1p-requires
-ln-1p-requires c κs = tt
-
 returns : tie.Need-returns
 unfolding benefitOf scoreOf
 returns c = rw (c .before .before .before .before .before .before .ln-1p .ensures, c .before .before .before .before .before .before .before .sqrt .ensures, c .before .before .before .before .before .before .before .before .at-least-one .ensures)
 
 pub cause-aware-score-spec : {M : Type 1} → statement M
 cause-aware-score-spec =
-    tie.close (tie.spec at-least-one-requires sqrt-requires ln-1p-requires returns)
+    tie.close (tie.spec (λ c κs. tt) (λ c κs. tt) (λ c κs. tt) returns)

@@ -19,29 +19,11 @@ Inv-loop vector estimates n scores₀ i₀ scores i = (i ≤ length (estimatesOf
 abbrev μ-loop : tie.MeasureT-loop
 μ-loop vector estimates n scores₀ i₀ scores i = length (estimatesOf estimates) - i
 
-estimate-count-requires : tie.Need-estimate-count-requires Inv-loop μ-loop
-estimate-count-requires c κs = tt
-
 loop-holds : tie.Need-loop-holds Inv-loop μ-loop
 loop-holds c = (omega arith, refl)
 
 returns : tie.Need-returns Inv-loop μ-loop
 returns c = let a = c .before .before .before .before .before .args in let l = c .before .before .loop in scores-full (a .vector) (estimatesOf (now (a .estimates))) (l .i) (l .scores) (c .if1 .taken) (l .inv .1)
-
-estimate-at-requires : tie.Need-estimate-at-requires Inv-loop μ-loop
-estimate-at-requires c κs = tt
-
-cause-aware-score-requires : tie.Need-cause-aware-score-requires Inv-loop μ-loop
-cause-aware-score-requires c κs = tt
-
-mul-scores : tie.Need-mul-scores Inv-loop μ-loop
-mul-scores c = search needs
-
-array-write-scores : tie.Need-array-write-scores Inv-loop μ-loop
-array-write-scores c = search needs
-
-add-i : tie.Need-add-i Inv-loop μ-loop
-add-i c = search needs
 
 loop-less : tie.Need-loop-less Inv-loop μ-loop
 loop-less c = search needs
@@ -58,14 +40,14 @@ all-scores-spec =
     (tie.spec
     Inv-loop
     μ-loop
-    estimate-count-requires
+    (λ c κs. tt)
     loop-holds
     returns
-    estimate-at-requires
-    cause-aware-score-requires
-    mul-scores
-    array-write-scores
-    add-i
+    (λ c κs. tt)
+    (λ c κs. tt)
+    (λ c. search needs)
+    (λ c. search needs)
+    (λ c. search needs)
     loop-less
     loop-again
     returns-2)

@@ -17,20 +17,11 @@ Inv-loop candidates n i₀ i = (i ≤ length (candidatesOf candidates)) × (firs
 abbrev μ-loop : tie.MeasureT-loop
 μ-loop candidates n i₀ i = length (candidatesOf candidates) - i
 
-candidate-count-requires : tie.Need-candidate-count-requires Inv-loop μ-loop
-candidate-count-requires c κs = tt
-
 loop-holds : tie.Need-loop-holds Inv-loop μ-loop
 loop-holds c = (omega arith, refl)
 
-candidate-at-requires : tie.Need-candidate-at-requires Inv-loop μ-loop
-candidate-at-requires c κs = tt
-
 returns : tie.Need-returns Inv-loop μ-loop
 returns c = let l = c .before .before .before .before .loop in sym (l .inv .1 ∙ l0-here (candidatesOf (now (c .before .before .before .before .before .before .before .args .candidates))) (l .i) (omega arith) (rw (← (c .before .before .candidate-at .ensures)) (c .if1 .taken)))
-
-add-i : tie.Need-add-i Inv-loop μ-loop
-add-i c = search needs
 
 loop-less : tie.Need-loop-less Inv-loop μ-loop
 loop-less c = search needs
@@ -47,11 +38,11 @@ first-l0-spec =
     (tie.spec
     Inv-loop
     μ-loop
-    candidate-count-requires
+    (λ c κs. tt)
     loop-holds
-    candidate-at-requires
+    (λ c κs. tt)
     returns
-    add-i
+    (λ c. search needs)
     loop-less
     loop-again
     returns-2)

@@ -6,30 +6,6 @@ use Rattle.search.proofs.is_below_best.Tie as tie
 enum-told : tie.Need-enum-told
 enum-told c = search needs
 
-enum-known-best : tie.Need-enum-known-best
-enum-known-best c = search needs
-
-enum-told-2 : tie.Need-enum-told-2
-enum-told-2 c = search needs
-
-scores-below-requires : tie.Need-scores-below-requires
-scores-below-requires c κs = tt
-
-enum-told-3 : tie.Need-enum-told-3
-enum-told-3 c = search needs
-
-scores-below-requires-2 : tie.Need-scores-below-requires-2
-scores-below-requires-2 c κs = tt
-
-enum-told-4 : tie.Need-enum-told-4
-enum-told-4 c = search needs
-
-candidate-at-requires : tie.Need-candidate-at-requires
-candidate-at-requires c κs = tt
-
-candidate-at-requires-2 : tie.Need-candidate-at-requires-2
-candidate-at-requires-2 c κs = tt
-
 returns : tie.Need-returns
 returns c = λ ew. rw (c .enum-told .given .1)
 
@@ -47,14 +23,14 @@ is-below-best-spec =
     tie.close
     (tie.spec
     enum-told
-    enum-known-best
-    enum-told-2
-    scores-below-requires
-    enum-told-3
-    scores-below-requires-2
-    enum-told-4
-    candidate-at-requires
-    candidate-at-requires-2
+    (λ c. search needs)
+    (λ c. search needs)
+    (λ c κs. tt)
+    (λ c. search needs)
+    (λ c κs. tt)
+    (λ c. search needs)
+    (λ c κs. tt)
+    (λ c κs. tt)
     returns
     returns-2
     returns-3

@@ -4,26 +4,8 @@ use borrow.Author.Needs.{needs}
 use Rattle.search.proofs.is_compared.Statement.{statement}
 use Rattle.search.proofs.is_compared.Tie as tie
 
-candidate-at-requires : tie.Need-candidate-at-requires
-candidate-at-requires c κs = tt
-
 enum-told : tie.Need-enum-told
 enum-told c = search needs
-
-enum-known-search : tie.Need-enum-known-search
-enum-known-search c = search needs
-
-cast-result : tie.Need-cast-result
-cast-result c = search needs
-
-enum-known-search-2 : tie.Need-enum-known-search-2
-enum-known-search-2 c = search needs
-
-cast-if1 : tie.Need-cast-if1
-cast-if1 c = search needs
-
-saturated-at-requires : tie.Need-saturated-at-requires
-saturated-at-requires c κs = tt
 
 returns : tie.Need-returns
 returns c = λ ss. rw (c .before .before .before .before .search2 .given .1, rw (c .before .before .before .before .before .before .candidate-at .ensures) at (eq-eqb _ _ (c .before .if1 .taken))) (c .saturated-at .ensures)
@@ -41,13 +23,13 @@ pub is-compared-spec : {M : Type 1} → statement M
 is-compared-spec =
     tie.close
     (tie.spec
-    candidate-at-requires
+    (λ c κs. tt)
     enum-told
-    enum-known-search
-    cast-result
-    enum-known-search-2
-    cast-if1
-    saturated-at-requires
+    (λ c. search needs)
+    (λ c. search needs)
+    (λ c. search needs)
+    (λ c. search needs)
+    (λ c κs. tt)
     returns
     returns-2
     returns-3

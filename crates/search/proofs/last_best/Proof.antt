@@ -19,20 +19,8 @@ Inv-loop search candidates estimates scores n best₀ i₀ best i = (i ≤ lengt
 abbrev μ-loop : tie.MeasureT-loop
 μ-loop search candidates estimates scores n best₀ i₀ best i = length (candidatesOf candidates) - i
 
-candidate-count-requires : tie.Need-candidate-count-requires Inv-loop μ-loop
-candidate-count-requires c κs = tt
-
 loop-holds : tie.Need-loop-holds Inv-loop μ-loop
 loop-holds c = let a = c .before .before .before .args in (omega arith, held-start (a .search) (readChoice (now (a .candidates)) (now (a .estimates)) (a .scores)) (length (candidatesOf (now (a .candidates)))))
-
-add-i : tie.Need-add-i Inv-loop μ-loop
-add-i c = search needs
-
-is-compared-requires : tie.Need-is-compared-requires Inv-loop μ-loop
-is-compared-requires c κs = tt
-
-is-below-best-requires : tie.Need-is-below-best-requires Inv-loop μ-loop
-is-below-best-requires c κs = tt
 
 loop-less : tie.Need-loop-less Inv-loop μ-loop
 loop-less c = search needs
@@ -64,11 +52,11 @@ last-best-spec =
     (tie.spec
     Inv-loop
     μ-loop
-    candidate-count-requires
+    (λ c κs. tt)
     loop-holds
-    add-i
-    is-compared-requires
-    is-below-best-requires
+    (λ c. search needs)
+    (λ c κs. tt)
+    (λ c κs. tt)
     loop-less
     loop-again
     loop-less-2

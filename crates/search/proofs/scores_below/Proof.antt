@@ -14,18 +14,6 @@ below-none nan = refl
 below-none (inf s) = refl
 below-none (fin s m e) = refl
 
-mul-result : tie.Need-mul-result
-mul-result c = search needs
-
-array-read-result : tie.Need-array-read-result
-array-read-result c = search needs
-
-mul-result-2 : tie.Need-mul-result-2
-mul-result-2 c = search needs
-
-array-read-result-2 : tie.Need-array-read-result-2
-array-read-result-2 c = search needs
-
 returns : tie.Need-returns
 returns c = refl
 
@@ -40,10 +28,10 @@ pub scores-below-spec : {M : Type 1} → statement M
 scores-below-spec =
     tie.close
     (tie.spec
-    mul-result
-    array-read-result
-    mul-result-2
-    array-read-result-2
+    (λ c. search needs)
+    (λ c. search needs)
+    (λ c. search needs)
+    (λ c. search needs)
     returns
     returns-2
     returns-3)

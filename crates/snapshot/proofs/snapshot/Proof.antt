@@ -4,15 +4,6 @@ use borrow.Author.Tests.{eq-eqb, ne-eqb}
 use Rattle.snapshot.proofs.snapshot.Statement.{statement}
 use Rattle.snapshot.proofs.snapshot.Tie as tie
 
-snapshot-fault-requires : tie.Need-snapshot-fault-requires
-snapshot-fault-requires c κs = tt
-
-times-after-requires : tie.Need-times-after-requires
-times-after-requires c κs = tt
-
-stats-requires : tie.Need-stats-requires
-stats-requires c κs = tt
-
 returns : tie.Need-returns
 unfolding snapshotOf
 returns c = simp (← c .before .before .before .snapshot-fault .ensures, eq-eqb _ _ (c .before .before .if1 .taken), c .stats .ensures, c .before .times-after .ensures)
@@ -24,4 +15,4 @@ returns-2 c = simp (← c .before .snapshot-fault .ensures, ne-eqb _ _ (c .if1 .
 pub snapshot-spec : {M : Type 1} → statement M
 snapshot-spec =
     tie.close
-    (tie.spec snapshot-fault-requires times-after-requires stats-requires returns returns-2)
+    (tie.spec (λ c κs. tt) (λ c κs. tt) (λ c κs. tt) returns returns-2)

@@ -3,15 +3,9 @@ use Rattle.snapshot.specs.Snapshot.{snapshotFault}
 use Rattle.snapshot.proofs.snapshot_fault.Statement.{statement}
 use Rattle.snapshot.proofs.snapshot_fault.Tie as tie
 
-any-large-requires : tie.Need-any-large-requires
-any-large-requires c κs = tt
-
 returns : tie.Need-returns
 unfolding snapshotFault
 returns c = simp (← c .before .any-large .ensures, c .if1 .taken)
-
-time-full-requires : tie.Need-time-full-requires
-time-full-requires c κs = tt
 
 returns-2 : tie.Need-returns-2
 unfolding snapshotFault
@@ -23,4 +17,4 @@ returns-3 c = simp (← c .before .before .before .any-large .ensures, c .before
 
 pub snapshot-fault-spec : {M : Type 1} → statement M
 snapshot-fault-spec =
-    tie.close (tie.spec any-large-requires returns time-full-requires returns-2 returns-3)
+    tie.close (tie.spec (λ c κs. tt) returns (λ c κs. tt) returns-2 returns-3)

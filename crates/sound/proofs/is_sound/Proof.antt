@@ -6,20 +6,11 @@ use Rattle.sound.proofs.is_sound.Tie as tie
 enum-told : tie.Need-enum-told
 enum-told c = c .match .keys1
 
-only-own-streak-requires : tie.Need-only-own-streak-requires
-only-own-streak-requires c κs = tt
-
 enum-told-2 : tie.Need-enum-told-2
 enum-told-2 c = c .match .keys2
 
-only-own-streak-requires-2 : tie.Need-only-own-streak-requires-2
-only-own-streak-requires-2 c κs = tt
-
 enum-told-3 : tie.Need-enum-told-3
 enum-told-3 c = c .match .keys3
-
-only-own-streak-requires-3 : tie.Need-only-own-streak-requires-3
-only-own-streak-requires-3 c κs = tt
 
 returns : tie.Need-returns
 unfolding soundOf
@@ -38,11 +29,11 @@ is-sound-spec =
     tie.close
     (tie.spec
     enum-told
-    only-own-streak-requires
+    (λ c κs. tt)
     enum-told-2
-    only-own-streak-requires-2
+    (λ c κs. tt)
     enum-told-3
-    only-own-streak-requires-3
+    (λ c κs. tt)
     returns
     returns-2
     returns-3)

@@ -9,26 +9,11 @@ use Rattle.writers.specs.Writers.{mergedOf}
 use Rattle.writers.proofs.put_batch.Statement.{statement}
 use Rattle.writers.proofs.put_batch.Tie as tie
 
-batch-low-requires : tie.Need-batch-low-requires
-batch-low-requires c κs = tt
-
-batch-high-requires : tie.Need-batch-high-requires
-batch-high-requires c κs = tt
-
-smaller-requires : tie.Need-smaller-requires
-smaller-requires c κs = tt
-
 array-share-prefix-places : tie.Need-array-share-prefix-places
 array-share-prefix-places c = let z : length (c .before .before .before .before .before .before .before .before .args .b .places) ≡ 8 = search needs in omega arith
 
 slice-aggregate-put-merged : tie.Need-slice-aggregate-put-merged
 slice-aggregate-put-merged c = let z : length (c .before .before .before .before .before .before .before .before .before .args .b .places) ≡ 8 = search needs in sym (length-take-le _ _ (omega arith))
-
-put-merged-requires : tie.Need-put-merged-requires
-put-merged-requires c κs = tt
-
-same-length : tie.Need-same-length
-same-length c = search needs
 
 returns : tie.Need-returns
 unfolding mergedOf
@@ -39,11 +24,11 @@ pub put-batch-spec : {M : Type 1} → statement M
 put-batch-spec =
     tie.close
     (tie.spec
-    batch-low-requires
-    batch-high-requires
-    smaller-requires
+    (λ c κs. tt)
+    (λ c κs. tt)
+    (λ c κs. tt)
     array-share-prefix-places
     slice-aggregate-put-merged
-    put-merged-requires
-    same-length
+    (λ c κs. tt)
+    (λ c. search needs)
     returns)

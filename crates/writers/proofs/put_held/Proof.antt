@@ -8,20 +8,11 @@ use Rattle.offers.specs.Batches.{take-held}
 use Rattle.writers.proofs.put_held.Statement.{statement}
 use Rattle.writers.proofs.put_held.Tie as tie
 
-smaller-requires : tie.Need-smaller-requires
-smaller-requires c κs = tt
-
 array-share-prefix-places : tie.Need-array-share-prefix-places
 array-share-prefix-places c = let z : length (c .before .before .before .before .args .b .places) ≡ 8 = search needs in omega arith
 
 slice-aggregate-put-numbers : tie.Need-slice-aggregate-put-numbers
 slice-aggregate-put-numbers c = let z : length (c .before .before .before .before .before .args .b .places) ≡ 8 = search needs in sym (length-take-le _ _ (omega arith))
-
-put-numbers-requires : tie.Need-put-numbers-requires
-put-numbers-requires c κs = tt
-
-same-length : tie.Need-same-length
-same-length c = search needs
 
 returns : tie.Need-returns
 returns c = let b = c .before .before .before .before .before .before .before .before .before .args .b in let z : length (b .places) ≡ 8 = search needs in
@@ -31,9 +22,9 @@ pub put-held-spec : {M : Type 1} → statement M
 put-held-spec =
     tie.close
     (tie.spec
-    smaller-requires
+    (λ c κs. tt)
     array-share-prefix-places
     slice-aggregate-put-numbers
-    put-numbers-requires
-    same-length
+    (λ c κs. tt)
+    (λ c. search needs)
     returns)

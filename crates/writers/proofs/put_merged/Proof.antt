@@ -18,12 +18,6 @@ own c =
     let a = c .before .before .before .before .before .before .before .before .before .before .args in
     omega (arith, c .put-numbers .ensures .ends, numbers-length (tablesOf (now (a .tables))) (now (a .places)))
 
-smaller-requires : tie.Need-smaller-requires
-smaller-requires c κs = tt
-
-put-numbers-requires : tie.Need-put-numbers-requires
-put-numbers-requires c κs = tt
-
 add-put-overlapping : tie.Need-add-put-overlapping
 add-put-overlapping c = omega (arith, own (c .before .before .before))
 
@@ -34,9 +28,6 @@ add-result : tie.Need-add-result
 add-result c = let a = c .before .before .before .before .before .before .before .before .before .before .before .before .before .before .before .before .args in let ks = now (a .keys) in let ts = tablesOf (now (a .tables)) in
     omega (arith, own (c .before .before .before .before .before .before), c .before .before .put-overlapping .ensures .ends, numbers-length ts (overlappingOf ks ts (now (a .lo)) (now (a .hi)) (now (a .next))), filter-small (meets ks ts (now (a .lo)) (now (a .hi))) (now (a .next)))
 
-same-length : tie.Need-same-length
-same-length c = search needs
-
 returns : tie.Need-returns
 returns c = filled-clip _ _ _ _ _ _ (c .before .before .before .before .before .before .before .before .smaller .ensures) (rw (← add-assoc) (filled-append _ _ _ _ _ _ _ _ (c .before .before .before .before .before .before .put-numbers .ensures) (c .before .before .put-overlapping .ensures)))
 
@@ -44,10 +35,10 @@ pub put-merged-spec : {M : Type 1} → statement M
 put-merged-spec =
     tie.close
     (tie.spec
-    smaller-requires
-    put-numbers-requires
+    (λ c κs. tt)
+    (λ c κs. tt)
     add-put-overlapping
     put-overlapping-requires
     add-result
-    same-length
+    (λ c. search needs)
     returns)

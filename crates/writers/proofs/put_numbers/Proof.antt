@@ -18,29 +18,8 @@ Inv-loop tables places out₀ at from i₀ out i = (i ≤ length places) × Fill
 abbrev μ-loop : tie.MeasureT-loop
 μ-loop tables places out₀ at from i₀ out i = length places - i
 
-smaller-requires : tie.Need-smaller-requires Inv-loop μ-loop
-smaller-requires c κs = tt
-
 loop-holds : tie.Need-loop-holds Inv-loop μ-loop
 loop-holds c = (omega arith, rw add-zero (fill-start _ _ _))
-
-mul-number-at : tie.Need-mul-number-at Inv-loop μ-loop
-mul-number-at c = search needs
-
-shared-slice-read-number-at : tie.Need-shared-slice-read-number-at Inv-loop μ-loop
-shared-slice-read-number-at c = search needs
-
-number-at-requires : tie.Need-number-at-requires Inv-loop μ-loop
-number-at-requires c κs = tt
-
-add-put : tie.Need-add-put Inv-loop μ-loop
-add-put c = search needs
-
-put-requires : tie.Need-put-requires Inv-loop μ-loop
-put-requires c κs = tt
-
-add-i : tie.Need-add-i Inv-loop μ-loop
-add-i c = search needs
 
 loop-less : tie.Need-loop-less Inv-loop μ-loop
 loop-less c = search needs
@@ -62,14 +41,14 @@ put-numbers-spec =
     (tie.spec
     Inv-loop
     μ-loop
-    smaller-requires
+    (λ c κs. tt)
     loop-holds
-    mul-number-at
-    shared-slice-read-number-at
-    number-at-requires
-    add-put
-    put-requires
-    add-i
+    (λ c. search needs)
+    (λ c. search needs)
+    (λ c κs. tt)
+    (λ c. search needs)
+    (λ c κs. tt)
+    (λ c. search needs)
     loop-less
     loop-again
     same-length

@@ -19,15 +19,6 @@ product z h l b = let k : z * z / 2 ^ 36 ≤ 2 ^ 28 = omega (arith, square z l) 
 mul-q : tie.Need-mul-q
 mul-q c = record { fits = square (c .args .z) (c .pre) }
 
-mul-h : tie.Need-mul-h
-mul-h c = search needs
-
-sub-h : tie.Need-sub-h
-sub-h c = search needs
-
-mul-result : tie.Need-mul-result
-mul-result c = search needs
-
 mul-result-2 : tie.Need-mul-result-2
 mul-result-2 c = record { fits = lt-of-le-of-lt (le-add-right _ _) (product (c .args .z) _ (c .pre) (omega arith)) }
 
@@ -43,4 +34,4 @@ returns c = refl
 
 pub remainder-spec : {M : Type 1} → statement M
 remainder-spec =
-    tie.close (tie.spec mul-q mul-h sub-h mul-result mul-result-2 add-result sub-result returns)
+    tie.close (tie.spec mul-q (λ c. search needs) (λ c. search needs) (λ c. search needs) mul-result-2 add-result sub-result returns)

@@ -8,21 +8,6 @@ use Rattle.arith.specs.Logarithm.Mono.{cell-le}
 use Rattle.arith.proofs.logarithm.units.Statement.{statement}
 use Rattle.arith.proofs.logarithm.units.Tie as tie
 
-mul-z : tie.Need-mul-z
-mul-z c = search needs
-
-div-z : tie.Need-div-z
-div-z c = search needs
-
-mul-result : tie.Need-mul-result
-mul-result c = search needs
-
-sub-entry : tie.Need-sub-entry
-sub-entry c = search needs
-
-entry-requires : tie.Need-entry-requires
-entry-requires c κs = search needs
-
 add-result : tie.Need-add-result
 add-result c = let b = c .before .args .big in omega (arith, c .entry .ensures, cell-le (b / 2 ^ 43) (b % 2 ^ 43) (omega arith) (omega arith) (omega arith))
 
@@ -41,11 +26,11 @@ pub units-spec : {M : Type 1} → statement M
 units-spec =
     tie.close
     (tie.spec
-    mul-z
-    div-z
-    mul-result
-    sub-entry
-    entry-requires
+    (λ c. search needs)
+    (λ c. search needs)
+    (λ c. search needs)
+    (λ c. search needs)
+    (λ c κs. search needs)
     add-result
     remainder-requires
     add-result-2

@@ -15,36 +15,6 @@ abbrev μ-loop : tie.MeasureT-loop
 loop-holds : tie.Need-loop-holds Inv-loop μ-loop
 loop-holds c = search needs
 
-mul-rest : tie.Need-mul-rest Inv-loop μ-loop
-mul-rest c = search needs
-
-add-rest : tie.Need-add-rest Inv-loop μ-loop
-add-rest c = search needs
-
-mul-left : tie.Need-mul-left Inv-loop μ-loop
-mul-left c = search needs
-
-mul-root : tie.Need-mul-root Inv-loop μ-loop
-mul-root c = search needs
-
-add-place : tie.Need-add-place Inv-loop μ-loop
-add-place c = search needs
-
-mul-if1 : tie.Need-mul-if1 Inv-loop μ-loop
-mul-if1 c = search needs
-
-mul-rest-2 : tie.Need-mul-rest-2 Inv-loop μ-loop
-mul-rest-2 c = search needs
-
-sub-rest : tie.Need-sub-rest Inv-loop μ-loop
-sub-rest c = search needs
-
-sub-rest-2 : tie.Need-sub-rest-2 Inv-loop μ-loop
-sub-rest-2 c = search needs
-
-add-root : tie.Need-add-root Inv-loop μ-loop
-add-root c = search needs
-
 loop-less : tie.Need-loop-less Inv-loop μ-loop
 loop-less c = search needs
 
@@ -56,9 +26,6 @@ loop-less-2 c = search needs
 
 loop-again-2 : tie.Need-loop-again-2 Inv-loop μ-loop
 loop-again-2 c = naught (c .before .before .loop .inv) (c .before .loop-test .taken) (c .if1 .left)
-
-add-result : tie.Need-add-result Inv-loop μ-loop
-add-result c = search needs
 
 returns : tie.Need-returns Inv-loop μ-loop
 returns c = up (c .before .before .loop .inv) (c .before .before .before .fits .n .fits) (c .before .loop-test .left) (c .if2 .taken)
@@ -73,20 +40,20 @@ digits-spec =
     Inv-loop
     μ-loop
     loop-holds
-    mul-rest
-    add-rest
-    mul-left
-    mul-root
-    add-place
-    mul-if1
-    mul-rest-2
-    sub-rest
-    sub-rest-2
-    add-root
+    (λ c. search needs)
+    (λ c. search needs)
+    (λ c. search needs)
+    (λ c. search needs)
+    (λ c. search needs)
+    (λ c. search needs)
+    (λ c. search needs)
+    (λ c. search needs)
+    (λ c. search needs)
+    (λ c. search needs)
     loop-less
     loop-again
     loop-less-2
     loop-again-2
-    add-result
+    (λ c. search needs)
     returns
     returns-2)

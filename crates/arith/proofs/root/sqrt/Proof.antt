@@ -49,9 +49,6 @@ int-to-float-result c = le→leb _ _ (root-le (shape (c .before .before)) (c .be
 sub-result : tie.Need-sub-result
 sub-result c = omega (arith, shape (c .before .before))
 
-shl-result : tie.Need-shl-result
-shl-result c = omega arith
-
 int-to-float-result-2 : tie.Need-int-to-float-result-2
 unfolding inFloat
 int-to-float-result-2 c = le→leb _ _ (power-le ((c .before .before .before .size .result - 1) / 2))
@@ -75,6 +72,6 @@ sqrt-spec =
     (λ c κs. tt)
     int-to-float-result
     sub-result
-    shl-result
+    (λ c. omega arith)
     int-to-float-result-2
     returns-3)

@@ -30,20 +30,8 @@ more : (c : tie.After-batch-of Inv-loop μ-loop) → let a = c .before .before .
 more c = let a = c .before .before .before .before .before .before .before .before .before .before .args in let l = c .before .before .loop in let ks = now (a .keys) in let ts = tablesOf (now (a .tables)) in
     rw (tabulate-more (batchOf ks ts (a .level) (now (a .next)) (now (a .run))) (c .before .before .before .smaller .result) (l .len) (omega arith), batch-held ks ts (a .level) (now (a .next)) (now (a .run)) _ (l .len + 1) (omega (arith, c .before .before .before .smaller .ensures)) (c .batch-of .ensures)) at (l .inv .1)
 
-smaller-requires : tie.Need-smaller-requires Inv-loop μ-loop
-smaller-requires c κs = tt
-
 loop-holds : tie.Need-loop-holds Inv-loop μ-loop
 loop-holds c = (omega arith, rw (sub-zero, c .smaller .ensures) (writing-start _ _ _ _))
-
-add-len : tie.Need-add-len Inv-loop μ-loop
-add-len c = search needs
-
-batch-of-requires : tie.Need-batch-of-requires Inv-loop μ-loop
-batch-of-requires c κs = tt
-
-put-batch-requires : tie.Need-put-batch-requires Inv-loop μ-loop
-put-batch-requires c κs = tt
 
 put-candidate-requires : tie.Need-put-candidate-requires Inv-loop μ-loop
 put-candidate-requires c κs = (c .before .before .before .before .before .before .before .before .before .before .before .before .before .before .before .pre .0, fit-one _ _ _ _ _ _ _ _ (c .before .before .before .put-batch .ensures) (fit-left _ _ _ (fit-rest _ _ _ _ _ _ _ _ (c .before .before .before .before .before .before .before .before .before .before .before .before .before .before .before .pre .1) (more (c .before .before .before .before .before)))))
@@ -71,11 +59,11 @@ put-batches-spec =
     (tie.spec
     Inv-loop
     μ-loop
-    smaller-requires
+    (λ c κs. tt)
     loop-holds
-    add-len
-    batch-of-requires
-    put-batch-requires
+    (λ c. search needs)
+    (λ c κs. tt)
+    (λ c κs. tt)
     put-candidate-requires
     loop-less
     loop-again

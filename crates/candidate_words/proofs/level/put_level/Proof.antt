@@ -26,17 +26,8 @@ second c =
 slice-aggregate-sort-level : tie.Need-slice-aggregate-sort-level
 slice-aggregate-sort-level c = refl
 
-sort-level-requires : tie.Need-sort-level-requires
-sort-level-requires c κs = tt
-
-add-level-places : tie.Need-add-level-places
-add-level-places c = search needs
-
 slice-aggregate-level-places : tie.Need-slice-aggregate-level-places
 slice-aggregate-level-places c = refl
-
-level-places-requires : tie.Need-level-places-requires
-level-places-requires c κs = tt
 
 array-share-prefix-order : tie.Need-array-share-prefix-order
 array-share-prefix-order c = first (c .before .before .before .before) .within
@@ -68,10 +59,10 @@ put-level-spec =
     tie.close
     (tie.spec
     slice-aggregate-sort-level
-    sort-level-requires
-    add-level-places
+    (λ c κs. tt)
+    (λ c. search needs)
     slice-aggregate-level-places
-    level-places-requires
+    (λ c κs. tt)
     array-share-prefix-order
     slice-aggregate-put-ordered
     array-share-prefix-next

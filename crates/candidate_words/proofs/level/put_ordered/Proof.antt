@@ -31,9 +31,6 @@ held c =
     let h = rw (take-all 1024 (now (a .order)) (c .before .before .before .before .before .before .before .before .before .before .before .before .before .before .before .before .pre .0 .1)) at (c .free-moves .ensures) in
     h .places
 
-seed-requires : tie.Need-seed-requires
-seed-requires c κs = tt
-
 mul-put-batches : tie.Need-mul-put-batches
 mul-put-batches c = omega (arith, within c)
 
@@ -43,15 +40,9 @@ sub-put-batches c = within c
 part-put-batches-start : tie.Need-part-put-batches-start
 part-put-batches-start c = within c
 
-part-put-batches-end : tie.Need-part-put-batches-end
-part-put-batches-end c = search needs
-
 put-batches-requires : tie.Need-put-batches-requires
 unfolding levelOffers
 put-batches-requires c κs = (c .before .before .before .before .before .before .before .before .before .before .pre .0 .0, rw (run (c .before .before .before)) (fit-left _ _ _ (c .before .before .before .before .before .before .before .before .before .before .pre .1)))
-
-free-moves-requires : tie.Need-free-moves-requires
-free-moves-requires c κs = tt
 
 put-moves-requires : tie.Need-put-moves-requires
 unfolding levelOffers
@@ -71,13 +62,13 @@ pub put-ordered-spec : {M : Type 1} → statement M
 put-ordered-spec =
     tie.close
     (tie.spec
-    seed-requires
+    (λ c κs. tt)
     mul-put-batches
     sub-put-batches
     part-put-batches-start
-    part-put-batches-end
+    (λ c. search needs)
     put-batches-requires
-    free-moves-requires
+    (λ c κs. tt)
     put-moves-requires
     same-length
     same-length-2

@@ -27,9 +27,6 @@ returns : tie.Need-returns
 unfolding moveOffers
 returns c = rw (c .if1 .taken) (written-none _ _ _)
 
-put-held-requires : tie.Need-put-held-requires
-put-held-requires c κs = tt
-
 put-candidate-requires : tie.Need-put-candidate-requires
 put-candidate-requires c κs = (c .before .before .before .before .before .before .before .before .before .before .pre .0, fit-one _ _ _ _ _ _ _ _ (c .before .before .before .put-held .ensures) (rw (there (c .before .before .before .before .before)) at (c .before .before .before .before .before .before .before .before .before .before .pre .1)))
 
@@ -47,7 +44,7 @@ put-moves-spec =
     tie.close
     (tie.spec
     returns
-    put-held-requires
+    (λ c κs. tt)
     put-candidate-requires
     same-length
     same-length-2

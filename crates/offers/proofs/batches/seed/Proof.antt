@@ -21,27 +21,9 @@ abbrev μ-loop : tie.MeasureT-loop
 returns : tie.Need-returns Inv-loop μ-loop
 returns c = sym (seed-none _ _ (c .if1 .taken))
 
-shared-slice-read-number-at : tie.Need-shared-slice-read-number-at Inv-loop μ-loop
-shared-slice-read-number-at c = search needs
-
-number-at-requires : tie.Need-number-at-requires Inv-loop μ-loop
-number-at-requires c κs = tt
-
 loop-holds : tie.Need-loop-holds Inv-loop μ-loop
 loop-holds c = let a = c .before .before .before .before .before .args in
     (omega (arith, c .before .before .if1 .left), seed-some (tablesOf (now (a .tables))) (now (a .order)) (omega (arith, c .before .before .if1 .left)) ∙ rw (← (c .number-at .ensures)))
-
-mul-number-at : tie.Need-mul-number-at Inv-loop μ-loop
-mul-number-at c = search needs
-
-shared-slice-read-number-at-2 : tie.Need-shared-slice-read-number-at-2 Inv-loop μ-loop
-shared-slice-read-number-at-2 c = search needs
-
-number-at-requires-2 : tie.Need-number-at-requires-2 Inv-loop μ-loop
-number-at-requires-2 c κs = tt
-
-add-i : tie.Need-add-i Inv-loop μ-loop
-add-i c = search needs
 
 loop-less : tie.Need-loop-less Inv-loop μ-loop
 loop-less c = search needs
@@ -68,13 +50,13 @@ seed-spec =
     Inv-loop
     μ-loop
     returns
-    shared-slice-read-number-at
-    number-at-requires
+    (λ c. search needs)
+    (λ c κs. tt)
     loop-holds
-    mul-number-at
-    shared-slice-read-number-at-2
-    number-at-requires-2
-    add-i
+    (λ c. search needs)
+    (λ c. search needs)
+    (λ c κs. tt)
+    (λ c. search needs)
     loop-less
     loop-again
     loop-less-2

@@ -8,17 +8,11 @@ use Rattle.offers.specs.Batches.{take-held}
 use Rattle.offers.proofs.ranges.batch_high.Statement.{statement}
 use Rattle.offers.proofs.ranges.batch_high.Tie as tie
 
-smaller-requires : tie.Need-smaller-requires
-smaller-requires c κs = tt
-
 array-share-prefix-places : tie.Need-array-share-prefix-places
 array-share-prefix-places c = let z : length (c .before .before .before .before .args .b .places) ≡ 8 = search needs in omega arith
 
 slice-aggregate-high : tie.Need-slice-aggregate-high
 slice-aggregate-high c = let z : length (c .before .before .before .before .before .args .b .places) ≡ 8 = search needs in sym (length-take-le _ _ (omega arith))
-
-high-requires : tie.Need-high-requires
-high-requires c κs = tt
 
 returns : tie.Need-returns
 returns c = let b = c .before .before .before .before .before .before .args .b in let z : length (b .places) ≡ 8 = search needs in
@@ -27,4 +21,4 @@ returns c = let b = c .before .before .before .before .before .before .args .b i
 pub batch-high-spec : {M : Type 1} → statement M
 batch-high-spec =
     tie.close
-    (tie.spec smaller-requires array-share-prefix-places slice-aggregate-high high-requires returns)
+    (tie.spec (λ c κs. tt) array-share-prefix-places slice-aggregate-high (λ c κs. tt) returns)

@@ -8,17 +8,11 @@ use Rattle.offers.specs.Batches.{take-held}
 use Rattle.offers.proofs.ranges.batch_low.Statement.{statement}
 use Rattle.offers.proofs.ranges.batch_low.Tie as tie
 
-smaller-requires : tie.Need-smaller-requires
-smaller-requires c κs = tt
-
 array-share-prefix-places : tie.Need-array-share-prefix-places
 array-share-prefix-places c = let z : length (c .before .before .before .before .args .b .places) ≡ 8 = search needs in omega arith
 
 slice-aggregate-low : tie.Need-slice-aggregate-low
 slice-aggregate-low c = let z : length (c .before .before .before .before .before .args .b .places) ≡ 8 = search needs in sym (length-take-le _ _ (omega arith))
-
-low-requires : tie.Need-low-requires
-low-requires c κs = tt
 
 returns : tie.Need-returns
 returns c = let b = c .before .before .before .before .before .before .args .b in let z : length (b .places) ≡ 8 = search needs in
@@ -27,4 +21,4 @@ returns c = let b = c .before .before .before .before .before .before .args .b i
 pub batch-low-spec : {M : Type 1} → statement M
 batch-low-spec =
     tie.close
-    (tie.spec smaller-requires array-share-prefix-places slice-aggregate-low low-requires returns)
+    (tie.spec (λ c κs. tt) array-share-prefix-places slice-aggregate-low (λ c κs. tt) returns)

@@ -4,12 +4,9 @@ use Rattle.records.specs.Tables.{firstKey}
 use Rattle.records.proofs.tables.first_key.Statement.{statement}
 use Rattle.records.proofs.tables.first_key.Tie as tie
 
-part-requires : tie.Need-part-requires
-part-requires c κs = tt
-
 returns : tie.Need-returns
 unfolding firstKey
 returns c = search needs
 
 pub first-key-spec : {M : Type 1} → statement M
-first-key-spec = tie.close (tie.spec part-requires returns)
+first-key-spec = tie.close (tie.spec (λ c κs. tt) returns)

@@ -6,17 +6,8 @@ use borrow.Author.Needs.{needs}
 use Rattle.state.proofs.clock.time_full.Statement.{statement}
 use Rattle.state.proofs.clock.time_full.Tie as tie
 
-time-in-requires : tie.Need-time-in-requires
-time-in-requires c κs = tt
-
-sub-result : tie.Need-sub-result
-sub-result c = search needs
-
-elapsed-requires : tie.Need-elapsed-requires
-elapsed-requires c κs = tt
-
 returns : tie.Need-returns
 returns c = simp (← c .before .time-in .ensures, ← c .elapsed .ensures) (room (2 ^ 64 - 1) (c .before .time-in .result) (c .elapsed .result) (omega arith))
 
 pub time-full-spec : {M : Type 1} → statement M
-time-full-spec = tie.close (tie.spec time-in-requires sub-result elapsed-requires returns)
+time-full-spec = tie.close (tie.spec (λ c κs. tt) (λ c. search needs) (λ c κs. tt) returns)

@@ -3,26 +3,14 @@ use Rattle.state.specs.Clock.{timesOf}
 use Rattle.state.proofs.clock.times_after.Statement.{statement}
 use Rattle.state.proofs.clock.times_after.Tie as tie
 
-elapsed-requires : tie.Need-elapsed-requires
-elapsed-requires c κs = tt
-
 enum-told : tie.Need-enum-told
 enum-told c = c .match .keys1
-
-saturating-add-requires : tie.Need-saturating-add-requires
-saturating-add-requires c κs = tt
 
 enum-told-2 : tie.Need-enum-told-2
 enum-told-2 c = c .match .keys2
 
-saturating-add-requires-2 : tie.Need-saturating-add-requires-2
-saturating-add-requires-2 c κs = tt
-
 enum-told-3 : tie.Need-enum-told-3
 enum-told-3 c = c .match .keys3
-
-saturating-add-requires-3 : tie.Need-saturating-add-requires-3
-saturating-add-requires-3 c κs = tt
 
 returns : tie.Need-returns
 unfolding timesOf
@@ -40,13 +28,13 @@ pub times-after-spec : {M : Type 1} → statement M
 times-after-spec =
     tie.close
     (tie.spec
-    elapsed-requires
+    (λ c κs. tt)
     enum-told
-    saturating-add-requires
+    (λ c κs. tt)
     enum-told-2
-    saturating-add-requires-2
+    (λ c κs. tt)
     enum-told-3
-    saturating-add-requires-3
+    (λ c κs. tt)
     returns
     returns-2
     returns-3)

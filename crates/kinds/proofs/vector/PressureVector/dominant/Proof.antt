@@ -3,12 +3,6 @@ use Rattle.kinds.specs.Vector.{dominantOf}
 use Rattle.kinds.proofs.vector.PressureVector.dominant.Statement.{statement}
 use Rattle.kinds.proofs.vector.PressureVector.dominant.Tie as tie
 
-maximum-requires : tie.Need-maximum-requires
-maximum-requires c κs = tt
-
-maximum-requires-2 : tie.Need-maximum-requires-2
-maximum-requires-2 c κs = tt
-
 returns : tie.Need-returns
 unfolding dominantOf
 returns c = simp (← c .before .before .maximum .ensures, ← c .before .maximum2 .ensures, c .if1 .taken)
@@ -27,4 +21,4 @@ returns-4 c = simp (← c .before .before .before .before .before .before .maxim
 
 pub dominant-spec : {M : Type 1} → statement M
 dominant-spec =
-    tie.close (tie.spec maximum-requires maximum-requires-2 returns returns-2 returns-3 returns-4)
+    tie.close (tie.spec (λ c κs. tt) (λ c κs. tt) returns returns-2 returns-3 returns-4)
