@@ -1,6 +1,7 @@
 // What a line does to the governor.
 ghost use mathlib.Core.Path.{_≡_};
 ghost use Rattle.replay_fields.specs.declared.Line.the-variants.{None as NoLine};
+ghost use Rattle.state.specs.State.{freshOf};
 ghost use Rattle.replay_lines.specs.Replay.{observeLine};
 use replay_fields::Line;
 use state::GovernorState;
@@ -16,11 +17,22 @@ fn unchanged(s: GovernorState) -> Observed
     }
 }
 
-pub(crate) fn observe_line(s: GovernorState, line: Line) -> Observed
-    ensures { λ r. ⌜ r ≡ observeLine s line ⌝ }
+// What follows an observation, or the start.
+pub(crate) fn observe_line(o: Observed, line: Line) -> Observed
+    ensures { λ r. ⌜ r ≡ observeLine (o .state) line ⌝ }
 {
     match line {
-        Line::Observation(now, p) => governor::observe(s, now, p),
-        Line::None => unchanged(s),
+        Line::Observation(now, p) => governor::observe(o.state, now, p),
+        Line::None => unchanged(o.state),
+    }
+}
+
+pub(crate) fn begun() -> Observed
+    ensures { λ r. ⌜ r .state ≡ freshOf 0 ⌝ }
+{
+    let state = state::fresh(0);
+    Observed {
+        refusal: refusals::NONE,
+        state,
     }
 }

@@ -1,11 +1,12 @@
 // The whole run: a governor fresh at clock 0, and a line written for each line read.
 ghost use mathlib.Core.Path.{_≡_};
-ghost use Prim.Native.Nat.{_+_, _≤_};
+ghost use Prim.Native.Nat.{_≤_};
 ghost use lib.ListN.{length, replicate};
 ghost use Rattle.lists.specs.Writes.{Filled};
 ghost use Rattle.state.specs.State.{freshOf};
 ghost use Rattle.replay_text.specs.Lines.{linesOf};
-ghost use Rattle.replay_lines.specs.Replay.{printed, replayFrom, replayedOf, replayOut, Counts};
+ghost use Rattle.replay_lines.specs.Replay.{numbersOf, replayFrom, replayedOf, replayOut, Counts};
+use crate::lines::begun;
 use crate::lines::observe_line;
 use replay_fields::COMMA;
 use replay_fields::line_of;
@@ -38,16 +39,15 @@ pub fn output_room() -> [u8; 1179648]
     [0; 1179648]
 }
 
-// Line number, refusal, mode, dominant, delay; how many bytes they take.
-fn put_line(out: &mut [u8], at: usize, number: u64, o: Observed) -> usize
-    ensures { λ r. ⌜ Filled (now (out .entry)) at (printed number o) (now (out .exit)) (at + r) ⌝ }
+// Line number, refusal, mode, dominant, delay.
+fn line_numbers(number: u64, o: Observed) -> [u64; 5]
+    ensures { λ r. ⌜ (5 ≡ length r) × (r ≡ numbersOf number o) ⌝ }
 {
     let s = o.state;
     let mode = s.mode();
     let dominant = s.pressure_vector().dominant();
     let delay = pressure::pacing::pacing_delay(mode, s.pressure());
-    let numbers = [number, o.refusal, mode.idx(), dominant.number(), delay];
-    put_row(out, at, &numbers, COMMA, LF)
+    [number, o.refusal, mode.idx(), dominant.number(), delay]
 }
 
 // Writes the whole output as far as the buffer goes, and answers its length.
@@ -55,7 +55,7 @@ fn run(text: &[u8], out: &mut [u8]) -> usize
     requires { ⌜ length (now text) ≤ 65536 ⌝ }
     ensures { λ r. ⌜ Filled (now (out .entry)) 0 (replayFrom (freshOf 0) 1 (linesOf (now (text .entry)))) (now (out .exit)) r ⌝ }
 {
-    let mut state = state::fresh(0);
+    let mut o = begun();
     let mut number: u64 = 1;
     let mut at: usize = 0;
     let mut place: usize = 0;
@@ -64,10 +64,9 @@ fn run(text: &[u8], out: &mut [u8]) -> usize
         let LineAt::Part { start, end, next } = found else {
             return at;
         };
-        let o = observe_line(state, line_of(&text[start..end]));
-        at += put_line(out, at, number, o);
-        let after = o.state;
-        state = after;
+        o = observe_line(o, line_of(&text[start..end]));
+        let numbers = line_numbers(number, o);
+        at += put_row(out, at, &numbers, COMMA, LF);
         number += 1;
         place = next;
     }

@@ -1,10 +1,10 @@
 -- `replay_lines::run::run` meets its contract. The invariant: what is left to write is what the lines from `place` on print, and `place` bounds the line number and the bytes written.
 use Rattle.replay_lines.specs.Replay.Room.{printed-few}
-use Rattle.replay_lines.specs.Replay.Steps.{replay-more, replay-end}
+use Rattle.replay_lines.specs.Replay.Steps.{row-five, replay-more, replay-end}
 use Rattle.replay_text.specs.Lines.NextLine.{IsLine, line-at-says}
 use denote.Ref.{now}
-use Rattle.lists.specs.Writes.{Filling, fill-start, fill-part, fill-end}
-use Rattle.replay_lines.specs.Replay.{replayFrom}
+use Rattle.lists.specs.Writes.{Filled, Filling, fill-start, fill-part, fill-end}
+use Rattle.replay_lines.specs.Replay.{observeLine, printed, replayFrom}
 use Rattle.replay_text.specs.Lines.{linesOf}
 use Rattle.state.specs.State.{freshOf}
 use lib.ListN.{length, drop}
@@ -15,14 +15,14 @@ use Rattle.replay_lines.proofs.run.run.Statement.{statement}
 use Rattle.replay_lines.proofs.run.run.Tie as tie
 
 abbrev Inv-loop : tie.InvT-loop
-Inv-loop text out₀ state₀ number₀ at₀ place₀ out state number at place =
+Inv-loop text out₀ o₀ number₀ at₀ place₀ out o number at place =
     (place ≤ length text)
     × (number ≤ place + 1)
     × (at ≤ 18 * place)
-    × Filling out₀ 0 (replayFrom (freshOf 0) 1 (linesOf text)) out at (replayFrom state number (linesOf (drop place text)))
+    × Filling out₀ 0 (replayFrom (freshOf 0) 1 (linesOf text)) out at (replayFrom (o .state) number (linesOf (drop place text)))
 
 abbrev μ-loop : tie.MeasureT-loop
-μ-loop text out₀ state₀ number₀ at₀ place₀ out state number at place = length text - place
+μ-loop text out₀ o₀ number₀ at₀ place₀ out o number at place = length text - place
 
 -- the line that was found
 here : (c : tie.After-found Inv-loop μ-loop)
@@ -31,19 +31,23 @@ here c =
     let l = c .before .before .before in
     rw (← (c .before .before .next-line .ensures), c .found .given .1) at (line-at-says (now (l .before .before .before .before .args .text)) (l .loop .place))
 
--- what it prints
-few : (c : tie.After-put-line Inv-loop μ-loop) → c .put-line .result ≤ 18
-few c =
-    let o = c .before .before in
-    let l = o .before .before .before .before .before .before .before in
-    let f = printed-few (l .loop .number) (l .loop .state) (o .before .line-of .result) (omega (arith, l .loop .inv, l .before .before .before .before .pre)) in
-    omega (arith, f, rw (o .observe-line .ensures) at (c .put-line .ensures .ends))
+-- what was written of it
+wrote : (c : tie.After-put-row Inv-loop μ-loop)
+    → Filled (c .before .before .before .before .before .before .before .before .before .before .before .loop .out) (c .before .before .before .before .before .before .before .before .before .before .before .loop .at) (printed (c .before .before .before .before .before .before .before .before .before .before .before .loop .number) (observeLine (c .before .before .before .before .before .before .before .before .before .before .before .loop .o .state) (c .before .before .before .before .before .line-of .result))) (c .put-row .last .0) (c .before .before .before .before .before .before .before .before .before .before .before .loop .at + c .put-row .result)
+wrote c =
+    let n = c .before .before .before in
+    rw (n .line-numbers .ensures .1, row-five, n .before .observe-line .ensures) at (c .put-row .ensures)
 
-fresh-requires : tie.Need-fresh-requires Inv-loop μ-loop
-fresh-requires c κs = tt
+few : (c : tie.After-put-row Inv-loop μ-loop) → c .put-row .result ≤ 18
+few c =
+    let l = c .before .before .before .before .before .before .before .before .before .before .before in
+    omega (arith, wrote c .ends, printed-few (l .loop .number) (l .loop .o .state) (c .before .before .before .before .before .line-of .result) (omega (arith, l .loop .inv, l .before .before .before .before .pre)))
+
+begun-requires : tie.Need-begun-requires Inv-loop μ-loop
+begun-requires c κs = tt
 
 loop-holds : tie.Need-loop-holds Inv-loop μ-loop
-loop-holds c = (omega arith, omega arith, omega arith, rw (c .fresh .ensures) (fill-start _ _ _))
+loop-holds c = (omega arith, omega arith, omega arith, rw (c .begun .ensures) (fill-start _ _ _))
 
 next-line-requires : tie.Need-next-line-requires Inv-loop μ-loop
 next-line-requires c κs = tt
@@ -61,7 +65,7 @@ returns : tie.Need-returns Inv-loop μ-loop
 returns c =
     let l = c .before .before .before in
     let says = rw (← (c .before .before .next-line .ensures), c .enum-told .given .1) at (line-at-says (now (l .before .before .before .before .args .text)) (l .loop .place)) in
-    fill-end _ _ _ _ _ (rw (replay-end (l .loop .state) (l .loop .number) _ says) at (l .loop .inv .3))
+    fill-end _ _ _ _ _ (rw (replay-end (l .loop .o .state) (l .loop .number) _ says) at (l .loop .inv .3))
 
 sub-line-of : tie.Need-sub-line-of Inv-loop μ-loop
 sub-line-of c = here (c .before) .order
@@ -78,37 +82,42 @@ line-of-requires c κs = tt
 observe-line-requires : tie.Need-observe-line-requires Inv-loop μ-loop
 observe-line-requires c κs = tt
 
-put-line-requires : tie.Need-put-line-requires Inv-loop μ-loop
-put-line-requires c κs = tt
+line-numbers-requires : tie.Need-line-numbers-requires Inv-loop μ-loop
+line-numbers-requires c κs = tt
+
+slice-aggregate-put-row : tie.Need-slice-aggregate-put-row Inv-loop μ-loop
+slice-aggregate-put-row c = search needs
+
+put-row-requires : tie.Need-put-row-requires Inv-loop μ-loop
+put-row-requires c κs = tt
 
 add-at : tie.Need-add-at Inv-loop μ-loop
 add-at c =
-    let p = c .before .before in
-    let l = p .before .before .before .before .before .before .before .before .before in
-    omega (arith, few p, l .loop .inv, l .before .before .before .before .pre)
+    let l = c .before .before .before .before .before .before .before .before .before .before .before .before .before in
+    omega (arith, few (c .before .before), l .loop .inv, l .before .before .before .before .pre)
 
 add-number : tie.Need-add-number Inv-loop μ-loop
 add-number c =
-    let l = c .before .before .before .before .before .before .before .before .before .before .before .before in
+    let l = c .before .before .before .before .before .before .before .before .before .before .before .before .before in
     omega (arith, l .loop .inv, l .before .before .before .before .pre)
 
 loop-less : tie.Need-loop-less Inv-loop μ-loop
 loop-less c =
-    let h = here (c .before .before .before .before .before .before .before .before .before) in
+    let h = here (c .before .before .before .before .before .before .before .before .before .before) in
     omega (arith, h .on, h .within)
 
 loop-again : tie.Need-loop-again Inv-loop μ-loop
 loop-again c =
-    let p = c .before .before .before in
-    let o = p .before .before in
+    let p = c .before .before in
+    let o = p .before .before .before .before in
     let f = o .before .before .before .before in
     let h = here f in
     let l = f .before .before .before .loop in
-    let e = replay-more (l .state) (l .number) _ _ _ (h .lines) in (
+    let e = replay-more (l .o .state) (l .number) _ _ _ (h .lines) in (
       h .within,
       omega (arith, h .on, l .inv),
       omega (arith, h .on, l .inv, few p),
-      fill-part _ _ _ _ _ _ _ _ _ (rw (o .observe-line .ensures, o .before .line-of .ensures, ← e) (l .inv .3)) (p .put-line .ensures),
+      fill-part _ _ _ _ _ _ _ _ _ (rw (o .observe-line .ensures, o .before .line-of .ensures, ← e) (l .inv .3)) (rw (o .before .line-of .ensures) at (wrote p)),
     )
 
 pub run-spec : {M : Type 1} → statement M
@@ -117,7 +126,7 @@ run-spec =
     (tie.spec
     Inv-loop
     μ-loop
-    fresh-requires
+    begun-requires
     loop-holds
     next-line-requires
     enum-known-found
@@ -129,7 +138,9 @@ run-spec =
     part-line-of-end
     line-of-requires
     observe-line-requires
-    put-line-requires
+    line-numbers-requires
+    slice-aggregate-put-row
+    put-row-requires
     add-at
     add-number
     loop-less
