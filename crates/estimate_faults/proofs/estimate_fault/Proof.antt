@@ -1,54 +1,78 @@
 -- `estimate_faults::estimate_fault` meets its contract.
 use Rattle.estimate_faults.specs.Faults.{estimateFault}
 use Rattle.candidate_records.specs.Candidates.{candidatesOf}
+use mathlib.Core.Path.{_≡_, refl}
+use mathlib.Core.Bool.{Bool, true, false, cond}
 use borrow.Author.Tests.{lt-ltb, le-ltb}
 use denote.Ref.{now}
 use lib.ListN.{length}
-use Prim.Native.Nat.{_*_, _≤_, _<_}
+use Prim.Native.Nat.{ℕ, _*_, _≤_, _<_}
 use native.Mathlib.Omega.{arith}
 use Rattle.estimate_faults.proofs.estimate_fault.Statement.{statement}
 use Rattle.estimate_faults.proofs.estimate_fault.Tie as tie
 
+-- a check that found nothing is passed, and the first that found its fault gives its number
+pass : {b t : Bool} {x rest : ℕ} (n : ℕ) → t ≡ b → t ≡ false → x ≡ rest → x ≡ cond b n rest
+pass n e f r = rw (← e, f) r
+
+stop : {b t : Bool} (n rest : ℕ) → t ≡ b → t ≡ true → n ≡ cond b n rest
+stop n rest e f = rw (← e, f)
+
+too-many-requires : tie.Need-too-many-requires
+too-many-requires c κs = tt
+
 returns : tie.Need-returns
 unfolding estimateFault
-returns c = rw (← (c .before .too-many .ensures), c .if1 .taken)
+returns c = stop 4 _ (c .before .too-many .ensures) (c .if1 .taken)
+
+broken-requires : tie.Need-broken-requires
+broken-requires c κs = tt
 
 returns-2 : tie.Need-returns-2
 unfolding estimateFault
-returns-2 c = rw (← (c .before .before .before .too-many .ensures), c .before .before .if1 .left, ← (c .before .broken .ensures), c .if2 .taken)
+returns-2 c = pass 4 (c .before .before .before .too-many .ensures) (c .before .before .if1 .left) (stop 5 _ (c .before .broken .ensures) (c .if2 .taken))
+
+levels-out-requires : tie.Need-levels-out-requires
+levels-out-requires c κs = tt
 
 returns-3 : tie.Need-returns-3
 unfolding estimateFault
-returns-3 c = rw (← (c .before .before .before .before .before .too-many .ensures), c .before .before .before .before .if1 .left, ← (c .before .before .before .broken .ensures), c .before .before .if2 .left, ← (c .before .levels-out .ensures), c .if3 .taken)
+returns-3 c = pass 4 (c .before .before .before .before .before .too-many .ensures) (c .before .before .before .before .if1 .left) (pass 5 (c .before .before .before .broken .ensures) (c .before .before .if2 .left) (stop 6 _ (c .before .levels-out .ensures) (c .if3 .taken)))
+
+is-large-requires : tie.Need-is-large-requires
+is-large-requires c κs = tt
 
 returns-4 : tie.Need-returns-4
 unfolding estimateFault
-returns-4 c = rw (← (c .before .before .before .before .before .before .before .too-many .ensures), c .before .before .before .before .before .before .if1 .left, ← (c .before .before .before .before .before .broken .ensures), c .before .before .before .before .if2 .left, ← (c .before .before .before .levels-out .ensures), c .before .before .if3 .left, ← (c .before .is-large .ensures), c .if4 .taken)
+returns-4 c = pass 4 (c .before .before .before .before .before .before .before .too-many .ensures) (c .before .before .before .before .before .before .if1 .left) (pass 5 (c .before .before .before .before .before .broken .ensures) (c .before .before .before .before .if2 .left) (pass 6 (c .before .before .before .levels-out .ensures) (c .before .before .if3 .left) (stop 2 _ (c .before .is-large .ensures) (c .if4 .taken))))
+
+candidate-count-requires : tie.Need-candidate-count-requires
+candidate-count-requires c κs = tt
 
 returns-5 : tie.Need-returns-5
 unfolding estimateFault
 returns-5 c = let a = c .before .before .before .before .before .before .before .before .before .before .before .before .before .before .args in
     let h : a .room < 9 * length (candidatesOf (now (a .candidates))) = omega arith in
-    rw (← (c .before .before .before .before .before .before .before .before .before .too-many .ensures), c .before .before .before .before .before .before .before .before .if1 .left, ← (c .before .before .before .before .before .before .before .broken .ensures), c .before .before .before .before .before .before .if2 .left, ← (c .before .before .before .before .before .levels-out .ensures), c .before .before .before .before .if3 .left, ← (c .before .before .before .is-large .ensures), c .before .before .if4 .left, lt-ltb _ _ h)
+    pass 4 (c .before .before .before .before .before .before .before .before .before .too-many .ensures) (c .before .before .before .before .before .before .before .before .if1 .left) (pass 5 (c .before .before .before .before .before .before .before .broken .ensures) (c .before .before .before .before .before .before .if2 .left) (pass 6 (c .before .before .before .before .before .levels-out .ensures) (c .before .before .before .before .if3 .left) (pass 2 (c .before .before .before .is-large .ensures) (c .before .before .if4 .left) (stop 9 _ refl (lt-ltb _ _ h)))))
 
 returns-6 : tie.Need-returns-6
 unfolding estimateFault
 returns-6 c = let a = c .before .before .before .before .before .before .before .before .before .before .before .before .before .before .args in
     let h : 9 * length (candidatesOf (now (a .candidates))) ≤ a .room = omega arith in
-    rw (← (c .before .before .before .before .before .before .before .before .before .too-many .ensures), c .before .before .before .before .before .before .before .before .if1 .left, ← (c .before .before .before .before .before .before .before .broken .ensures), c .before .before .before .before .before .before .if2 .left, ← (c .before .before .before .before .before .levels-out .ensures), c .before .before .before .before .if3 .left, ← (c .before .before .before .is-large .ensures), c .before .before .if4 .left, le-ltb _ _ h)
+    pass 4 (c .before .before .before .before .before .before .before .before .before .too-many .ensures) (c .before .before .before .before .before .before .before .before .if1 .left) (pass 5 (c .before .before .before .before .before .before .before .broken .ensures) (c .before .before .before .before .before .before .if2 .left) (pass 6 (c .before .before .before .before .before .levels-out .ensures) (c .before .before .before .before .if3 .left) (pass 2 (c .before .before .before .is-large .ensures) (c .before .before .if4 .left) (pass 9 refl (le-ltb _ _ h) refl))))
 
 pub estimate-fault-spec : {M : Type 1} → statement M
 estimate-fault-spec =
     tie.close
     (tie.spec
-    (λ c κs. tt)
+    too-many-requires
     returns
-    (λ c κs. tt)
+    broken-requires
     returns-2
-    (λ c κs. tt)
+    levels-out-requires
     returns-3
-    (λ c κs. tt)
+    is-large-requires
     returns-4
-    (λ c κs. tt)
+    candidate-count-requires
     returns-5
     returns-6)
