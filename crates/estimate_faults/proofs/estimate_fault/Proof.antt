@@ -18,36 +18,21 @@ pass n e f r = rw (← e, f) r
 stop : {b t : Bool} (n rest : ℕ) → t ≡ b → t ≡ true → n ≡ cond b n rest
 stop n rest e f = rw (← e, f)
 
-too-many-requires : tie.Need-too-many-requires
-too-many-requires c κs = tt
-
 returns : tie.Need-returns
 unfolding estimateFault
 returns c = stop 4 _ (c .before .too-many .ensures) (c .if1 .taken)
-
-broken-requires : tie.Need-broken-requires
-broken-requires c κs = tt
 
 returns-2 : tie.Need-returns-2
 unfolding estimateFault
 returns-2 c = pass 4 (c .before .before .before .too-many .ensures) (c .before .before .if1 .left) (stop 5 _ (c .before .broken .ensures) (c .if2 .taken))
 
-levels-out-requires : tie.Need-levels-out-requires
-levels-out-requires c κs = tt
-
 returns-3 : tie.Need-returns-3
 unfolding estimateFault
 returns-3 c = pass 4 (c .before .before .before .before .before .too-many .ensures) (c .before .before .before .before .if1 .left) (pass 5 (c .before .before .before .broken .ensures) (c .before .before .if2 .left) (stop 6 _ (c .before .levels-out .ensures) (c .if3 .taken)))
 
-is-large-requires : tie.Need-is-large-requires
-is-large-requires c κs = tt
-
 returns-4 : tie.Need-returns-4
 unfolding estimateFault
 returns-4 c = pass 4 (c .before .before .before .before .before .before .before .too-many .ensures) (c .before .before .before .before .before .before .if1 .left) (pass 5 (c .before .before .before .before .before .broken .ensures) (c .before .before .before .before .if2 .left) (pass 6 (c .before .before .before .levels-out .ensures) (c .before .before .if3 .left) (stop 2 _ (c .before .is-large .ensures) (c .if4 .taken))))
-
-candidate-count-requires : tie.Need-candidate-count-requires
-candidate-count-requires c κs = tt
 
 returns-5 : tie.Need-returns-5
 unfolding estimateFault
@@ -65,14 +50,14 @@ pub estimate-fault-spec : {M : Type 1} → statement M
 estimate-fault-spec =
     tie.close
     (tie.spec
-    too-many-requires
+    (λ c κs. tt)
     returns
-    broken-requires
+    (λ c κs. tt)
     returns-2
-    levels-out-requires
+    (λ c κs. tt)
     returns-3
-    is-large-requires
+    (λ c κs. tt)
     returns-4
-    candidate-count-requires
+    (λ c κs. tt)
     returns-5
     returns-6)

@@ -23,20 +23,11 @@ loop-holds c = (omega arith, omega arith, refl)
 returns : tie.Need-returns Inv-loop μ-loop
 returns c = let l = c .before .before in sym (l .loop .inv .2 ∙ order-long (now (l .before .args .a)) (now (l .before .args .b)) (l .loop .i) (omega arith) (omega arith))
 
-shared-slice-read-x : tie.Need-shared-slice-read-x Inv-loop μ-loop
-shared-slice-read-x c = search needs
-
-shared-slice-read-y : tie.Need-shared-slice-read-y Inv-loop μ-loop
-shared-slice-read-y c = search needs
-
 returns-2 : tie.Need-returns-2 Inv-loop μ-loop
 returns-2 c = let l = c .before .before .before .before .before in sym (l .loop .inv .2 ∙ order-at (now (l .before .args .a)) (now (l .before .args .b)) (l .loop .i) (omega arith) (omega arith) ∙ simp (lt-ltb _ _ (c .if2 .taken)))
 
 returns-3 : tie.Need-returns-3 Inv-loop μ-loop
 returns-3 c = let l = c .before .before .before .before .before .before in sym (l .loop .inv .2 ∙ order-at (now (l .before .args .a)) (now (l .before .args .b)) (l .loop .i) (omega arith) (omega arith) ∙ simp (le-ltb _ _ (c .before .if2 .left), lt-ltb _ _ (c .if3 .taken)))
-
-add-i : tie.Need-add-i Inv-loop μ-loop
-add-i c = search needs
 
 loop-less : tie.Need-loop-less Inv-loop μ-loop
 loop-less c = search needs
@@ -58,11 +49,11 @@ compare-spec =
     μ-loop
     loop-holds
     returns
-    shared-slice-read-x
-    shared-slice-read-y
+    (λ c. search needs)
+    (λ c. search needs)
     returns-2
     returns-3
-    add-i
+    (λ c. search needs)
     loop-less
     loop-again
     returns-4

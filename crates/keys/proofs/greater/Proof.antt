@@ -5,17 +5,8 @@ use Rattle.keys.specs.Parts.{greaterPart}
 use Rattle.keys.proofs.greater.Statement.{statement}
 use Rattle.keys.proofs.greater.Tie as tie
 
-compare-requires : tie.Need-compare-requires
-compare-requires c κs = tt
-
 enum-told : tie.Need-enum-told
 enum-told c = search needs
-
-enum-told-2 : tie.Need-enum-told-2
-enum-told-2 c = search needs
-
-enum-told-3 : tie.Need-enum-told-3
-enum-told-3 c = search needs
 
 returns : tie.Need-returns
 unfolding greaterPart keyLt
@@ -32,4 +23,4 @@ returns-3 c = rw (← (c .before .before .compare .ensures), c .enum-told3 .give
 pub greater-spec : {M : Type 1} → statement M
 greater-spec =
     tie.close
-    (tie.spec compare-requires enum-told enum-told-2 enum-told-3 returns returns-2 returns-3)
+    (tie.spec (λ c κs. tt) enum-told (λ c. search needs) (λ c. search needs) returns returns-2 returns-3)

@@ -9,42 +9,15 @@ use borrow.Author.Needs.{needs}
 use Rattle.keys.proofs.part.Statement.{statement}
 use Rattle.keys.proofs.part.Tie as tie
 
-sub-result : tie.Need-sub-result
-sub-result c = search needs
-
-part-result-start : tie.Need-part-result-start
-part-result-start c = search needs
-
-part-result-end : tie.Need-part-result-end
-part-result-end c = search needs
-
 returns : tie.Need-returns
 returns c =
     let a = c .before .before .args in
     let past : length (now (a .s)) ≤ a .start = omega arith in
     ((refl, omega arith), simp (drop-of-length-le (now (a .s)) past, drop-length, take-nil) (sym (take-nil (a .len))))
 
-part-result-start-2 : tie.Need-part-result-start-2
-part-result-start-2 c = search needs
-
-part-result-end-2 : tie.Need-part-result-end-2
-part-result-end-2 c = search needs
-
 returns-2 : tie.Need-returns-2
 returns-2 c = let a = c .before .before .before .args in let d = drop (a .start) (now (a .s)) in
     ((refl, omega arith), take-all (length (now (a .s)) - a .start) d (simp length-drop (omega arith)) ∙ sym (take-all (a .len) d (simp length-drop (omega arith))))
-
-add-end : tie.Need-add-end
-add-end c = search needs
-
-sub-result-2 : tie.Need-sub-result-2
-sub-result-2 c = search needs
-
-part-result-start-3 : tie.Need-part-result-start-3
-part-result-start-3 c = search needs
-
-part-result-end-3 : tie.Need-part-result-end-3
-part-result-end-3 c = search needs
 
 returns-3 : tie.Need-returns-3
 returns-3 c = let a = c .before .before .before .args in let e : a .start + a .len - a .start ≡ a .len = omega arith in ((refl, omega arith), rw e)
@@ -53,15 +26,15 @@ pub part-spec : {M : Type 1} → statement M
 part-spec =
     tie.close
     (tie.spec
-    sub-result
-    part-result-start
-    part-result-end
+    (λ c. search needs)
+    (λ c. search needs)
+    (λ c. search needs)
     returns
-    part-result-start-2
-    part-result-end-2
+    (λ c. search needs)
+    (λ c. search needs)
     returns-2
-    add-end
-    sub-result-2
-    part-result-start-3
-    part-result-end-3
+    (λ c. search needs)
+    (λ c. search needs)
+    (λ c. search needs)
+    (λ c. search needs)
     returns-3)

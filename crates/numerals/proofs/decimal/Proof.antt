@@ -11,20 +11,11 @@ use Rattle.numerals.proofs.decimal.Tie as tie
 returns : tie.Need-returns
 returns c = let s = now (c .before .before .args .s) in sym (decimal-read s ∙ rw (begun-none s (c .if1 .taken)))
 
-digits-requires : tie.Need-digits-requires
-digits-requires c κs = search needs
-
 returns-2 : tie.Need-returns-2
 returns-2 c = let s = now (c .before .before .before .before .args .s) in sym (decimal-read s ∙ rw (begun-one s (c .before .if2 .taken), c .digits .ensures))
 
-shared-slice-read-if3 : tie.Need-shared-slice-read-if3
-shared-slice-read-if3 c = search needs
-
 returns-3 : tie.Need-returns-3
 returns-3 c = let s = now (c .before .before .before .before .before .args .s) in sym (decimal-read s ∙ rw (begun-more s (omega arith), eq-eqb _ _ (c .if3 .taken)))
-
-digits-requires-2 : tie.Need-digits-requires-2
-digits-requires-2 c κs = search needs
 
 returns-4 : tie.Need-returns-4
 returns-4 c = let s = now (c .before .before .before .before .before .before .args .s) in sym (decimal-read s ∙ rw (begun-more s (omega arith), ne-eqb _ _ (c .before .if3 .left), c .digits2 .ensures))
@@ -34,9 +25,9 @@ decimal-spec =
     tie.close
     (tie.spec
     returns
-    digits-requires
+    (λ c κs. search needs)
     returns-2
-    shared-slice-read-if3
+    (λ c. search needs)
     returns-3
-    digits-requires-2
+    (λ c κs. search needs)
     returns-4)

@@ -6,9 +6,6 @@ use native.Mathlib.Omega.{arith}
 use Rattle.numerals.proofs.digit.Statement.{statement}
 use Rattle.numerals.proofs.digit.Tie as tie
 
-is-between-requires : tie.Need-is-between-requires
-is-between-requires c κs = tt
-
 sub-result : tie.Need-sub-result
 sub-result c = let p = between 48 57 (c .before .before .args .byte) (sym (c .before .is-between .ensures) ∙ c .if1 .taken) in omega arith
 
@@ -16,18 +13,12 @@ returns : tie.Need-returns
 unfolding digitValue
 returns c = simp (← (c .before .is-between .ensures), c .if1 .taken)
 
-is-between-requires-2 : tie.Need-is-between-requires-2
-is-between-requires-2 c κs = tt
-
 sub-result-2 : tie.Need-sub-result-2
 sub-result-2 c = let p = between 65 70 (c .before .before .before .before .args .byte) (sym (c .before .is-between2 .ensures) ∙ c .if2 .taken) in omega arith
 
 returns-2 : tie.Need-returns-2
 unfolding digitValue
 returns-2 c = simp (← (c .before .before .before .is-between .ensures), c .before .before .if1 .left, ← (c .before .is-between2 .ensures), c .if2 .taken)
-
-is-between-requires-3 : tie.Need-is-between-requires-3
-is-between-requires-3 c κs = tt
 
 sub-result-3 : tie.Need-sub-result-3
 sub-result-3 c = let p = between 97 102 (c .before .before .before .before .before .before .args .byte) (sym (c .before .is-between3 .ensures) ∙ c .if3 .taken) in omega arith
@@ -44,13 +35,13 @@ pub digit-spec : {M : Type 1} → statement M
 digit-spec =
     tie.close
     (tie.spec
-    is-between-requires
+    (λ c κs. tt)
     sub-result
     returns
-    is-between-requires-2
+    (λ c κs. tt)
     sub-result-2
     returns-2
-    is-between-requires-3
+    (λ c κs. tt)
     sub-result-3
     returns-3
     returns-4)

@@ -20,24 +20,9 @@ abbrev μ-loop : tie.MeasureT-loop
 loop-holds : tie.Need-loop-holds Inv-loop μ-loop
 loop-holds c = (omega arith, omega arith, refl)
 
-shared-slice-read-digit : tie.Need-shared-slice-read-digit Inv-loop μ-loop
-shared-slice-read-digit c = search needs
-
-digit-requires : tie.Need-digit-requires Inv-loop μ-loop
-digit-requires c κs = search needs
-
-add-i : tie.Need-add-i Inv-loop μ-loop
-add-i c = search needs
-
 returns : tie.Need-returns Inv-loop μ-loop
 returns c = let l = c .before .before .before .before in let b = l .before .before .args .base in let s = now (l .before .before .args .s) in
     sym (l .loop .inv .2 ∙ number-stray b (l .loop .n) s (l .loop .i) (c .before .before .before .loop-test .taken) (rw (c .before .digit .ensures) at (c .if1 .taken)))
-
-sub-if2 : tie.Need-sub-if2 Inv-loop μ-loop
-sub-if2 c = search needs
-
-div-if2 : tie.Need-div-if2 Inv-loop μ-loop
-div-if2 c = search needs
 
 returns-2 : tie.Need-returns-2 Inv-loop μ-loop
 returns-2 c = let l = c .before .before .before .before .before in let b = l .before .before .args .base in let s = now (l .before .before .args .s) in
@@ -68,12 +53,12 @@ digits-spec =
     Inv-loop
     μ-loop
     loop-holds
-    shared-slice-read-digit
-    digit-requires
-    add-i
+    (λ c. search needs)
+    (λ c κs. search needs)
+    (λ c. search needs)
     returns
-    sub-if2
-    div-if2
+    (λ c. search needs)
+    (λ c. search needs)
     returns-2
     mul-n
     add-n

@@ -14,55 +14,13 @@ use borrow.Author.Needs.{needs}
 use Rattle.replay_fields.proofs.line_of.Statement.{statement}
 use Rattle.replay_fields.proofs.line_of.Tie as tie
 
-ends-of-requires : tie.Need-ends-of-requires
-ends-of-requires c κs = tt
-
 returns : tie.Need-returns
 unfolding lineOf
 returns c = let f = too-few _ _ _ _ _ _ (c .before .before .ends-of .ensures) (c .if1 .taken) in simp (ne-eqb (length (fieldsOf (now (c .before .before .before .before .args .line)))) 6 (omega arith))
 
-add-backlog : tie.Need-add-backlog
-add-backlog c = search needs
-
-find-requires : tie.Need-find-requires
-find-requires c κs = tt
-
 returns-2 : tie.Need-returns-2
 unfolding lineOf
 returns-2 c = let f = too-many _ _ _ _ _ _ (c .before .before .before .before .before .ends-of .ensures) (c .before .before .before .if1 .left) (rw (c .before .find .ensures .0) at (c .if2 .taken)) in simp (ne-eqb (length (fieldsOf (now (c .before .before .before .before .before .before .before .args .line)))) 6 (omega arith))
-
-decimal-in-requires : tie.Need-decimal-in-requires
-decimal-in-requires c κs = search needs
-
-add-decimal-in : tie.Need-add-decimal-in
-add-decimal-in c = search needs
-
-decimal-in-requires-2 : tie.Need-decimal-in-requires-2
-decimal-in-requires-2 c κs = search needs
-
-add-decimal-in-2 : tie.Need-add-decimal-in-2
-add-decimal-in-2 c = search needs
-
-decimal-in-requires-3 : tie.Need-decimal-in-requires-3
-decimal-in-requires-3 c κs = search needs
-
-add-bits-in : tie.Need-add-bits-in
-add-bits-in c = search needs
-
-bits-in-requires : tie.Need-bits-in-requires
-bits-in-requires c κs = search needs
-
-add-bits-in-2 : tie.Need-add-bits-in-2
-add-bits-in-2 c = search needs
-
-bits-in-requires-2 : tie.Need-bits-in-requires-2
-bits-in-requires-2 c κs = search needs
-
-decimal-in-requires-4 : tie.Need-decimal-in-requires-4
-decimal-in-requires-4 c κs = search needs
-
-observed-requires : tie.Need-observed-requires
-observed-requires c κs = tt
 
 returns-3 : tie.Need-returns-3
 unfolding lineOf
@@ -97,20 +55,20 @@ pub line-of-spec : {M : Type 1} → statement M
 line-of-spec =
     tie.close
     (tie.spec
-    ends-of-requires
+    (λ c κs. tt)
     returns
-    add-backlog
-    find-requires
+    (λ c. search needs)
+    (λ c κs. tt)
     returns-2
-    decimal-in-requires
-    add-decimal-in
-    decimal-in-requires-2
-    add-decimal-in-2
-    decimal-in-requires-3
-    add-bits-in
-    bits-in-requires
-    add-bits-in-2
-    bits-in-requires-2
-    decimal-in-requires-4
-    observed-requires
+    (λ c κs. search needs)
+    (λ c. search needs)
+    (λ c κs. search needs)
+    (λ c. search needs)
+    (λ c κs. search needs)
+    (λ c. search needs)
+    (λ c κs. search needs)
+    (λ c. search needs)
+    (λ c κs. search needs)
+    (λ c κs. search needs)
+    (λ c κs. tt)
     returns-3)

@@ -4,9 +4,6 @@ use borrow.Author.Needs.{needs}
 use Rattle.replay_fields.proofs.observed.Statement.{statement}
 use Rattle.replay_fields.proofs.observed.Tie as tie
 
-enum-known-clock : tie.Need-enum-known-clock
-enum-known-clock c = search needs
-
 enum-told : tie.Need-enum-told
 enum-told c = search needs
 
@@ -14,23 +11,11 @@ returns : tie.Need-returns
 unfolding observation
 returns c = simp (c .enum-told .given .1)
 
-enum-known-l0 : tie.Need-enum-known-l0
-enum-known-l0 c = search needs
-
-enum-told-2 : tie.Need-enum-told-2
-enum-told-2 c = search needs
-
 returns-2 : tie.Need-returns-2
 unfolding observation
 returns-2 c =
     let k = c .before .before .before in
     simp (k .clock .given .1, c .enum-told2 .given .1)
-
-enum-known-trigger : tie.Need-enum-known-trigger
-enum-known-trigger c = search needs
-
-enum-told-3 : tie.Need-enum-told-3
-enum-told-3 c = search needs
 
 returns-3 : tie.Need-returns-3
 unfolding observation
@@ -39,12 +24,6 @@ returns-3 c =
     let k = l .before .before .before in
     simp (k .clock .given .1, l .l0 .given .1, c .enum-told3 .given .1)
 
-enum-known-ratio : tie.Need-enum-known-ratio
-enum-known-ratio c = search needs
-
-enum-told-4 : tie.Need-enum-told-4
-enum-told-4 c = search needs
-
 returns-4 : tie.Need-returns-4
 unfolding observation
 returns-4 c =
@@ -52,12 +31,6 @@ returns-4 c =
     let l = t .before .before .before in
     let k = l .before .before .before in
     simp (k .clock .given .1, l .l0 .given .1, t .trigger .given .1, c .enum-told4 .given .1)
-
-enum-known-probes : tie.Need-enum-known-probes
-enum-known-probes c = search needs
-
-enum-told-5 : tie.Need-enum-told-5
-enum-told-5 c = search needs
 
 returns-5 : tie.Need-returns-5
 unfolding observation
@@ -68,12 +41,6 @@ returns-5 c =
     let k = l .before .before .before in
     simp (k .clock .given .1, l .l0 .given .1, t .trigger .given .1, r .ratio .given .1, c .enum-told5 .given .1)
 
-enum-known-backlog : tie.Need-enum-known-backlog
-enum-known-backlog c = search needs
-
-enum-told-6 : tie.Need-enum-told-6
-enum-told-6 c = search needs
-
 returns-6 : tie.Need-returns-6
 unfolding observation
 returns-6 c =
@@ -83,12 +50,6 @@ returns-6 c =
     let l = t .before .before .before in
     let k = l .before .before .before in
     simp (k .clock .given .1, l .l0 .given .1, t .trigger .given .1, r .ratio .given .1, p .probes .given .1, c .enum-told6 .given .1)
-
-of-bits-requires : tie.Need-of-bits-requires
-of-bits-requires c κs = tt
-
-of-bits-requires-2 : tie.Need-of-bits-requires-2
-of-bits-requires-2 c κs = tt
 
 returns-7 : tie.Need-returns-7
 unfolding observation
@@ -105,24 +66,24 @@ pub observed-spec : {M : Type 1} → statement M
 observed-spec =
     tie.close
     (tie.spec
-    enum-known-clock
+    (λ c. search needs)
     enum-told
     returns
-    enum-known-l0
-    enum-told-2
+    (λ c. search needs)
+    (λ c. search needs)
     returns-2
-    enum-known-trigger
-    enum-told-3
+    (λ c. search needs)
+    (λ c. search needs)
     returns-3
-    enum-known-ratio
-    enum-told-4
+    (λ c. search needs)
+    (λ c. search needs)
     returns-4
-    enum-known-probes
-    enum-told-5
+    (λ c. search needs)
+    (λ c. search needs)
     returns-5
-    enum-known-backlog
-    enum-told-6
+    (λ c. search needs)
+    (λ c. search needs)
     returns-6
-    of-bits-requires
-    of-bits-requires-2
+    (λ c κs. tt)
+    (λ c κs. tt)
     returns-7)

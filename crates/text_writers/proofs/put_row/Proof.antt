@@ -22,35 +22,8 @@ Inv-loop out₀ at numbers between last from count n₀ i₀ out n i =
 abbrev μ-loop : tie.MeasureT-loop
 μ-loop out₀ at numbers between last from count n₀ i₀ out n i = count - i
 
-smaller-requires : tie.Need-smaller-requires Inv-loop μ-loop
-smaller-requires c κs = tt
-
-smaller-requires-2 : tie.Need-smaller-requires-2 Inv-loop μ-loop
-smaller-requires-2 c κs = tt
-
 loop-holds : tie.Need-loop-holds Inv-loop μ-loop
 loop-holds c = (omega arith, omega arith, rw add-zero (fill-start _ _ _))
-
-mul-number : tie.Need-mul-number Inv-loop μ-loop
-mul-number c = search needs
-
-shared-slice-read-number : tie.Need-shared-slice-read-number Inv-loop μ-loop
-shared-slice-read-number c = search needs
-
-add-i : tie.Need-add-i Inv-loop μ-loop
-add-i c = search needs
-
-add-put-ended : tie.Need-add-put-ended Inv-loop μ-loop
-add-put-ended c = search needs
-
-sub-byte-behind : tie.Need-sub-byte-behind Inv-loop μ-loop
-sub-byte-behind c = search needs
-
-byte-behind-requires : tie.Need-byte-behind-requires Inv-loop μ-loop
-byte-behind-requires c κs = tt
-
-put-ended-requires : tie.Need-put-ended-requires Inv-loop μ-loop
-put-ended-requires c κs = tt
 
 add-n : tie.Need-add-n Inv-loop μ-loop
 add-n c = omega (arith, ended-few _ _ _ _ _ _ (c .before .before .put-ended .ensures))
@@ -90,16 +63,16 @@ put-row-spec =
     (tie.spec
     Inv-loop
     μ-loop
-    smaller-requires
-    smaller-requires-2
+    (λ c κs. tt)
+    (λ c κs. tt)
     loop-holds
-    mul-number
-    shared-slice-read-number
-    add-i
-    add-put-ended
-    sub-byte-behind
-    byte-behind-requires
-    put-ended-requires
+    (λ c. search needs)
+    (λ c. search needs)
+    (λ c. search needs)
+    (λ c. search needs)
+    (λ c. search needs)
+    (λ c κs. tt)
+    (λ c κs. tt)
     add-n
     loop-less
     loop-again

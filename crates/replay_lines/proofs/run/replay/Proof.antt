@@ -24,18 +24,6 @@ counted bytes old r new (e, f) = (e, (f, rw (e, f) (answer-counts bytes old)))
 returns : tie.Need-returns
 returns c = counted (now (c .before .before .before .args .text)) (now (c .before .before .before .args .out)) _ _ (answered _ _ [] (sym (replay-over (now (c .before .before .before .args .text)) (c .if1 .taken))) (omega arith))
 
-slice-relend-prefix-run : tie.Need-slice-relend-prefix-run
-slice-relend-prefix-run c = search needs
-
-slice-aggregate-run : tie.Need-slice-aggregate-run
-slice-aggregate-run c = search needs
-
-run-requires : tie.Need-run-requires
-run-requires c κs = search needs
-
-same-length : tie.Need-same-length
-same-length c = search needs
-
 returns-2 : tie.Need-returns-2
 returns-2 c =
     let r = c .before .before .before in
@@ -44,12 +32,6 @@ returns-2 c =
     let is = sym (replay-within (now (a .text)) (i .if1 .left)) in
     let no = refused _ (now (a .out)) _ is (omega (arith, r .run .ensures .ends)) in
     counted (now (a .text)) (now (a .out)) _ _ (no .0, none-of (r .run .last .1 .0) (now (a .out)) (r .run .kept .1 .0) ∙ no .1)
-
-run-requires-2 : tie.Need-run-requires-2
-run-requires-2 c κs = search needs
-
-same-length-2 : tie.Need-same-length-2
-same-length-2 c = search needs
 
 returns-3 : tie.Need-returns-3
 returns-3 c =
@@ -69,11 +51,11 @@ replay-spec =
     tie.close
     (tie.spec
     returns
-    slice-relend-prefix-run
-    slice-aggregate-run
-    run-requires
-    same-length
+    (λ c. search needs)
+    (λ c. search needs)
+    (λ c κs. search needs)
+    (λ c. search needs)
     returns-2
-    run-requires-2
-    same-length-2
+    (λ c κs. search needs)
+    (λ c. search needs)
     returns-3)

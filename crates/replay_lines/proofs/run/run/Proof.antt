@@ -43,23 +43,11 @@ few c =
     let l = c .before .before .before .before .before .before .before .before .before .before .before in
     omega (arith, wrote c .ends, printed-few (l .loop .number) (l .loop .o .state) (c .before .before .before .before .before .line-of .result) (omega (arith, l .loop .inv, l .before .before .before .before .pre)))
 
-begun-requires : tie.Need-begun-requires Inv-loop μ-loop
-begun-requires c κs = tt
-
 loop-holds : tie.Need-loop-holds Inv-loop μ-loop
 loop-holds c = (omega arith, omega arith, omega arith, rw (c .begun .ensures) (fill-start _ _ _))
 
-next-line-requires : tie.Need-next-line-requires Inv-loop μ-loop
-next-line-requires c κs = tt
-
-enum-known-found : tie.Need-enum-known-found Inv-loop μ-loop
-enum-known-found c = search needs
-
 enum-told : tie.Need-enum-told Inv-loop μ-loop
 enum-told c = search needs
-
-same-length : tie.Need-same-length Inv-loop μ-loop
-same-length c = search needs
 
 returns : tie.Need-returns Inv-loop μ-loop
 returns c =
@@ -75,21 +63,6 @@ part-line-of-start c = here (c .before) .order
 
 part-line-of-end : tie.Need-part-line-of-end Inv-loop μ-loop
 part-line-of-end c = here (c .before) .room
-
-line-of-requires : tie.Need-line-of-requires Inv-loop μ-loop
-line-of-requires c κs = tt
-
-observe-line-requires : tie.Need-observe-line-requires Inv-loop μ-loop
-observe-line-requires c κs = tt
-
-line-numbers-requires : tie.Need-line-numbers-requires Inv-loop μ-loop
-line-numbers-requires c κs = tt
-
-slice-aggregate-put-row : tie.Need-slice-aggregate-put-row Inv-loop μ-loop
-slice-aggregate-put-row c = search needs
-
-put-row-requires : tie.Need-put-row-requires Inv-loop μ-loop
-put-row-requires c κs = tt
 
 add-at : tie.Need-add-at Inv-loop μ-loop
 add-at c =
@@ -126,21 +99,21 @@ run-spec =
     (tie.spec
     Inv-loop
     μ-loop
-    begun-requires
+    (λ c κs. tt)
     loop-holds
-    next-line-requires
-    enum-known-found
+    (λ c κs. tt)
+    (λ c. search needs)
     enum-told
-    same-length
+    (λ c. search needs)
     returns
     sub-line-of
     part-line-of-start
     part-line-of-end
-    line-of-requires
-    observe-line-requires
-    line-numbers-requires
-    slice-aggregate-put-row
-    put-row-requires
+    (λ c κs. tt)
+    (λ c κs. tt)
+    (λ c κs. tt)
+    (λ c. search needs)
+    (λ c κs. tt)
     add-at
     add-number
     loop-less

@@ -9,12 +9,6 @@ returns : tie.Need-returns
 unfolding endOf
 returns c = simp (le-ltb _ _ (c .if1 .taken))
 
-sub-last : tie.Need-sub-last
-sub-last c = search needs
-
-shared-slice-read-if2 : tie.Need-shared-slice-read-if2
-shared-slice-read-if2 c = search needs
-
 returns-2 : tie.Need-returns-2
 unfolding endOf
 returns-2 c = simp (lt-ltb _ _ (c .before .before .if1 .left), eq-eqb _ _ (c .if2 .taken))
@@ -24,4 +18,4 @@ unfolding endOf
 returns-3 c = simp (lt-ltb _ _ (c .before .before .if1 .left), ne-eqb _ _ (c .if2 .left))
 
 pub end-before-spec : {M : Type 1} → statement M
-end-before-spec = tie.close (tie.spec returns sub-last shared-slice-read-if2 returns-2 returns-3)
+end-before-spec = tie.close (tie.spec returns (λ c. search needs) (λ c. search needs) returns-2 returns-3)

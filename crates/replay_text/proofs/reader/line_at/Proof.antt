@@ -9,18 +9,9 @@ returns : tie.Need-returns
 unfolding lineAtOf
 returns c = simp (le-leb _ _ (c .if1 .taken))
 
-find-requires : tie.Need-find-requires
-find-requires c κs = tt
-
 returns-2 : tie.Need-returns-2
 unfolding lineAtOf
 returns-2 c = simp (lt-leb _ _ (c .before .before .if1 .left), ← (c .before .find .ensures .0), le-leb _ _ (c .if2 .taken))
-
-end-before-requires : tie.Need-end-before-requires
-end-before-requires c κs = search needs
-
-add-t6 : tie.Need-add-t6
-add-t6 c = search needs
 
 returns-3 : tie.Need-returns-3
 unfolding lineAtOf
@@ -28,4 +19,4 @@ returns-3 c = simp (lt-leb _ _ (c .before .before .before .if1 .left), ← (c .b
 
 pub line-at-spec : {M : Type 1} → statement M
 line-at-spec =
-    tie.close (tie.spec returns find-requires returns-2 end-before-requires add-t6 returns-3)
+    tie.close (tie.spec returns (λ c κs. tt) returns-2 (λ c κs. search needs) (λ c. search needs) returns-3)
