@@ -12,6 +12,13 @@ use Rattle.lists.specs.Any.{anyOf}
 use Rattle.lists.specs.Tests.{neither}
 use Rattle.refusals.specs.Refusals.{Check, _gives_, firstFault, none}
 
+-- step by step: a check that found nothing is passed, and the first that found its fault gives its number
+pub pass : {b t : Bool} {x rest : ℕ} (n : ℕ) → t ≡ b → t ≡ false → x ≡ rest → x ≡ cond b n rest
+pass n e f r = rw (← e, f) r
+
+pub stop : {b t : Bool} (n rest : ℕ) → t ≡ b → t ≡ true → n ≡ cond b n rest
+stop n rest e f = rw (← e, f)
+
 abbrev pub Clear : List Check → Type 0
 Clear [] = Unit
 Clear (c ∷ cs) = (c .found ≡ false) × Clear cs

@@ -1,31 +1,41 @@
 -- `candidates::input_fault` meets its contract.
+use mathlib.Core.Path.{_≡_, refl}
+use mathlib.Core.Bool.{_||_}
+use lib.ListN.{length}
+use denote.Ref.{now}
+use Rattle.refusals.specs.Checks.{pass, stop}
+use Rattle.faults.specs.Tables.{tooManyTables, brokenTables, brokenKeys, tooManyEntries, brokenEntries}
 use Rattle.candidates.specs.Generate.{inputChecks}
 use Rattle.candidates.proofs.input_fault.Statement.{statement}
 use Rattle.candidates.proofs.input_fault.Tie as tie
 
+many : (c : tie.After-too-many-entries) → c .before .too-many-tables .result || c .too-many-entries .result ≡ tooManyTables (now (c .before .before .before .before .before .args .tables)) || tooManyEntries (now (c .before .before .before .before .before .args .over))
+many c = rw (c .before .too-many-tables .ensures, c .too-many-entries .ensures)
+
+broken : (c : tie.After-broken-entries) → let a = c .before .before .before .before .before .before .before .before .before .args in c .before .broken-tables .result || (c .before .before .broken-keys .result || c .broken-entries .result) ≡ brokenTables (now (a .tables)) || (brokenKeys (length (now (a .keys))) (now (a .tables)) || brokenEntries (now (a .over)))
+broken c = rw (c .before .broken-tables .ensures, c .before .before .broken-keys .ensures, c .broken-entries .ensures)
+
 returns : tie.Need-returns
 unfolding inputChecks
-returns c = simp (← (c .before .before .too-many-tables .ensures), ← (c .before .too-many-entries .ensures), c .if1 .taken)
+returns c = stop 4 _ (many (c .before)) (c .if1 .taken)
 
 returns-2 : tie.Need-returns-2
 unfolding inputChecks
-returns-2 c =
-    let b = c .before .before .before .before in
-    simp (← (b .before .before .too-many-tables .ensures), ← (b .before .too-many-entries .ensures), b .if1 .left, ← (c .before .before .before .broken-keys .ensures), ← (c .before .before .broken-tables .ensures), ← (c .before .broken-entries .ensures), c .if2 .taken)
+returns-2 c = let d = c .before .before .before .before in pass 4 (many (d .before)) (d .if1 .left) (stop 5 _ (broken (c .before)) (c .if2 .taken))
 
 returns-3 : tie.Need-returns-3
 unfolding inputChecks
 returns-3 c =
-    let d = c .before .before in
-    let b = d .before .before .before .before in
-    simp (← (b .before .before .too-many-tables .ensures), ← (b .before .too-many-entries .ensures), b .if1 .left, ← (d .before .before .before .broken-keys .ensures), ← (d .before .before .broken-tables .ensures), ← (d .before .broken-entries .ensures), d .if2 .left, ← (c .before .levels-out .ensures), c .if3 .taken)
+    let b = c .before .before in
+    let d = b .before .before .before .before in
+    pass 4 (many (d .before)) (d .if1 .left) (pass 5 (broken (b .before)) (b .if2 .left) (stop 6 _ (c .before .levels-out .ensures) (c .if3 .taken)))
 
 returns-4 : tie.Need-returns-4
 unfolding inputChecks
 returns-4 c =
-    let d = c .before .before in
-    let b = d .before .before .before .before in
-    simp (← (b .before .before .too-many-tables .ensures), ← (b .before .too-many-entries .ensures), b .if1 .left, ← (d .before .before .before .broken-keys .ensures), ← (d .before .before .broken-tables .ensures), ← (d .before .broken-entries .ensures), d .if2 .left, ← (c .before .levels-out .ensures), c .if3 .left)
+    let b = c .before .before in
+    let d = b .before .before .before .before in
+    pass 4 (many (d .before)) (d .if1 .left) (pass 5 (broken (b .before)) (b .if2 .left) (pass 6 (c .before .levels-out .ensures) (c .if3 .left) refl))
 
 pub input-fault-spec : {M : Type 1} → statement M
 input-fault-spec =

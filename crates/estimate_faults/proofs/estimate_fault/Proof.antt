@@ -1,22 +1,15 @@
 -- `estimate_faults::estimate_fault` meets its contract.
+use Rattle.refusals.specs.Checks.{pass, stop}
 use Rattle.estimate_faults.specs.Faults.{estimateFault}
 use Rattle.candidate_records.specs.Candidates.{candidatesOf}
-use mathlib.Core.Path.{_≡_, refl}
-use mathlib.Core.Bool.{Bool, true, false, cond}
+use mathlib.Core.Path.{refl}
 use borrow.Author.Tests.{lt-ltb, le-ltb}
 use denote.Ref.{now}
 use lib.ListN.{length}
-use Prim.Native.Nat.{ℕ, _*_, _≤_, _<_}
+use Prim.Native.Nat.{_*_, _≤_, _<_}
 use native.Mathlib.Omega.{arith}
 use Rattle.estimate_faults.proofs.estimate_fault.Statement.{statement}
 use Rattle.estimate_faults.proofs.estimate_fault.Tie as tie
-
--- a check that found nothing is passed, and the first that found its fault gives its number
-pass : {b t : Bool} {x rest : ℕ} (n : ℕ) → t ≡ b → t ≡ false → x ≡ rest → x ≡ cond b n rest
-pass n e f r = rw (← e, f) r
-
-stop : {b t : Bool} (n rest : ℕ) → t ≡ b → t ≡ true → n ≡ cond b n rest
-stop n rest e f = rw (← e, f)
 
 returns : tie.Need-returns
 unfolding estimateFault
