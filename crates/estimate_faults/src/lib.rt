@@ -1,6 +1,5 @@
 // What `estimate_candidates` refuses, as the number of the refusal; 0 where nothing is wrong. Nothing is refused here: the call gives the number.
 ghost use mathlib.Core.Path.{_≡_};
-ghost use lib.ListN.{length};
 ghost use Rattle.estimate_faults.specs.Faults.{estimateInput, tooManyInputs, brokenInputs, estimateFault};
 
 // The call's checks, in 01's order: 4, 5, 6, 2, 9. The room is the length of the output buffer.
