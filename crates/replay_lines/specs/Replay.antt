@@ -38,10 +38,6 @@ printed n o =
     five n (o .refusal) (modeNumber (o .state .mode)) (dominantNumber (dominantOf (o .state .signals .«pressure_vector»)))
     (pacingOf (o .state .mode) (o .state .signals .«last_pressure»))
 
--- the same, in a list
-abbrev pub numbersOf : ℕ → Observed → List ℕ
-numbersOf n o = n ∷ o .refusal ∷ modeNumber (o .state .mode) ∷ dominantNumber (dominantOf (o .state .signals .«pressure_vector»)) ∷ pacingOf (o .state .mode) (o .state .signals .«last_pressure») ∷ []
-
 unfoldable pub replayFrom : GovernorState → ℕ → List (List ℕ) → List ℕ
 replayFrom s n [] = []
 replayFrom s n (l ∷ ls) =

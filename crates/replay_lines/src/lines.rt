@@ -17,7 +17,7 @@ fn unchanged(s: GovernorState) -> Observed
     }
 }
 
-// What follows an observation, or the start.
+// What a line makes of the governor that the last one left.
 pub(crate) fn observe_line(o: Observed, line: Line) -> Observed
     ensures { λ r. ⌜ r ≡ observeLine (o .state) line ⌝ }
 {
@@ -27,6 +27,7 @@ pub(crate) fn observe_line(o: Observed, line: Line) -> Observed
     }
 }
 
+// The governor before the first line.
 pub(crate) fn begun() -> Observed
     ensures { λ r. ⌜ r .state ≡ freshOf 0 ⌝ }
 {

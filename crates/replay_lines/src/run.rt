@@ -4,8 +4,9 @@ ghost use Prim.Native.Nat.{_≤_};
 ghost use lib.ListN.{length, replicate};
 ghost use Rattle.lists.specs.Writes.{Filled};
 ghost use Rattle.state.specs.State.{freshOf};
-ghost use Rattle.replay_text.specs.Lines.{linesOf};
-ghost use Rattle.replay_lines.specs.Replay.{numbersOf, replayFrom, replayedOf, replayOut, Counts};
+ghost use Rattle.replay_text.specs.Lines.{LF, comma, linesOf};
+ghost use Rattle.text_writers.specs.Rows.{rowOf};
+ghost use Rattle.replay_lines.specs.Replay.{printed, replayFrom, replayedOf, replayOut, Counts};
 use crate::lines::begun;
 use crate::lines::observe_line;
 use replay_fields::COMMA;
@@ -39,9 +40,9 @@ pub fn output_room() -> [u8; 1179648]
     [0; 1179648]
 }
 
-// Line number, refusal, mode, dominant, delay.
+// The numbers that a line prints: its own, refusal, mode, dominant, delay.
 fn line_numbers(number: u64, o: Observed) -> [u64; 5]
-    ensures { λ r. ⌜ (5 ≡ length r) × (r ≡ numbersOf number o) ⌝ }
+    ensures { λ r. ⌜ (5 ≡ length r) × (rowOf comma LF r ≡ printed number o) ⌝ }
 {
     let s = o.state;
     let mode = s.mode();

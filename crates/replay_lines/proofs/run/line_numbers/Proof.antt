@@ -1,5 +1,6 @@
 -- `replay_lines::run::line_numbers` meets its contract.
 use mathlib.Core.Path.{refl}
+use Rattle.replay_lines.specs.Replay.Steps.{row-five}
 use Rattle.replay_lines.proofs.run.line_numbers.Statement.{statement}
 use Rattle.replay_lines.proofs.run.line_numbers.Tie as tie
 
@@ -9,6 +10,7 @@ returns c =
     let d = y .before .before in (
       refl,
       rw (
+        row-five,
         c .number .ensures,
         c .before .idx .ensures,
         y .pacing-delay .ensures,

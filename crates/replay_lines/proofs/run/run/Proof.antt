@@ -1,6 +1,6 @@
 -- `replay_lines::run::run` meets its contract. The invariant: what is left to write is what the lines from `place` on print, and `place` bounds the line number and the bytes written.
 use Rattle.replay_lines.specs.Replay.Room.{printed-few}
-use Rattle.replay_lines.specs.Replay.Steps.{row-five, replay-more, replay-end}
+use Rattle.replay_lines.specs.Replay.Steps.{replay-more, replay-end}
 use Rattle.replay_text.specs.Lines.NextLine.{IsLine, line-at-says}
 use denote.Ref.{now}
 use Rattle.lists.specs.Writes.{Filled, Filling, fill-start, fill-part, fill-end}
@@ -8,6 +8,7 @@ use Rattle.replay_lines.specs.Replay.{observeLine, printed, replayFrom}
 use Rattle.replay_text.specs.Lines.{linesOf}
 use Rattle.state.specs.State.{freshOf}
 use lib.ListN.{length, drop}
+use lib.Seq.{take-all}
 use Prim.Native.Nat.{_+_, _-_, _*_, _≤_}
 use borrow.Author.Needs.{needs}
 use native.Mathlib.Omega.{arith}
@@ -36,7 +37,7 @@ wrote : (c : tie.After-put-row Inv-loop μ-loop)
     → Filled (c .before .before .before .before .before .before .before .before .before .before .before .loop .out) (c .before .before .before .before .before .before .before .before .before .before .before .loop .at) (printed (c .before .before .before .before .before .before .before .before .before .before .before .loop .number) (observeLine (c .before .before .before .before .before .before .before .before .before .before .before .loop .o .state) (c .before .before .before .before .before .line-of .result))) (c .put-row .last .0) (c .before .before .before .before .before .before .before .before .before .before .before .loop .at + c .put-row .result)
 wrote c =
     let n = c .before .before .before in
-    rw (n .line-numbers .ensures .1, row-five, n .before .observe-line .ensures) at (c .put-row .ensures)
+    rw (take-all 1024 (n .line-numbers .result) (omega (arith, n .line-numbers .ensures .0)), n .line-numbers .ensures .1, n .before .observe-line .ensures) at (c .put-row .ensures)
 
 few : (c : tie.After-put-row Inv-loop μ-loop) → c .put-row .result ≤ 18
 few c =
