@@ -31,11 +31,6 @@ fn text(out: &mut [u8; OUT], at: usize, s: &[u8]) -> usize {
     to
 }
 
-// The last byte is replaced.
-fn close(out: &mut [u8; OUT], at: usize, s: &[u8]) -> usize {
-    text(out, if 0 < at { at - 1 } else { 0 }, s)
-}
-
 fn number(out: &mut [u8; OUT], at: usize, n: u64) -> usize {
     let mut digits = [0u8; 20];
     let k = io::decimal(n, &mut digits);
@@ -54,12 +49,11 @@ fn numbers(out: &mut [u8; OUT], at: usize, list: &[u64]) -> usize {
 }
 
 fn list(out: &mut [u8; OUT], at: usize, list: &[u64]) -> usize {
-    if list.len() == 0 {
-        return text(out, at, b"[] ");
-    }
     let from = byte(out, at, b'[');
     let to = numbers(out, from, list);
-    close(out, to, b"] ")
+    // The space behind the last number, where there is one, is replaced.
+    let end = std::num::wrapping_sub_usize(to, words::least(list.len(), 1));
+    text(out, end, b"] ")
 }
 
 // The number (kind 0) or the list (kind 1) at a place.
@@ -77,13 +71,16 @@ fn argument(
 }
 
 fn fault(out: &mut [u8; OUT], at: usize, fault: u64) -> usize {
-    match fault {
-        shape::EMPTY => text(out, at, b"? empty\n"),
-        shape::ARGUMENTS => text(out, at, b"? arguments\n"),
-        shape::NAME => text(out, at, b"? name\n"),
-        shape::LONG => text(out, at, b"? long\n"),
-        _ => text(out, at, b"? number\n"),
-    }
+    // Twelve bytes to each, in the order of their numbers.
+    let faults = b"? empty\n    ? arguments\n? name\n     ? long\n     ? number\n   ";
+    let place = std::num::wrapping_sub_u64(fault, shape::EMPTY) as usize;
+    let from = words::least(place, 4) * 12;
+    let end = words::find(faults, from, b'\n');
+    text(
+        out,
+        at,
+        words::cut(faults, from, std::num::wrapping_add_usize(end, 1)),
+    )
 }
 
 // How many parts a shape has.
@@ -117,5 +114,5 @@ pub fn line(out: &mut [u8; OUT], at: usize, shape: u64, words: &[u64; WORDS]) ->
         to = argument(out, to, kind, words, place);
         place = words::after(words, place, kind);
     }
-    close(out, to, b"\n")
+    byte(out, std::num::wrapping_sub_usize(to, 1), b'\n')
 }

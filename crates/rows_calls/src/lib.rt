@@ -28,6 +28,20 @@ fn told_by(
     shape::ARGUMENTS
 }
 
+// `echo` answers as `lent`, of any arguments.
+fn unlisted(name: &[u8], asked: u64) -> Call {
+    if !check::same(name, b"echo") {
+        return Call {
+            number: 0,
+            told: shape::NAME,
+        };
+    }
+    Call {
+        number: 60,
+        told: if asked < 2 { shape::ARGUMENTS } else { asked },
+    }
+}
+
 // The call of a name in a table, which has a line to a call: name, arguments, answer, number.
 fn call_in(
     table: &[u8],
@@ -38,10 +52,7 @@ fn call_in(
 ) -> Call {
     let at = names::line_of(table, name);
     if at == table.len() {
-        return Call {
-            number: 0,
-            told: shape::NAME,
-        };
+        return unlisted(name, asked);
     }
     let second = names::behind(table, at);
     let third = names::behind(table, second);
@@ -57,19 +68,8 @@ fn call_in(
     }
 }
 
-// As `lent`, of any arguments.
-fn echo(asked: u64) -> Call {
-    Call {
-        number: 60,
-        told: if asked < 2 { shape::ARGUMENTS } else { asked },
-    }
-}
-
 // The call that a question names, and its byte lists.
 pub fn call_of(name: &[u8], asked: u64, args: &[u64; WORDS], bytes: &mut [u8; BYTES]) -> Call {
-    if check::same(name, b"echo") {
-        return echo(asked);
-    }
     let table = b"of_bits n n 00
 absolute n n 01
 clamp n n 02

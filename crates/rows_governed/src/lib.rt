@@ -11,6 +11,7 @@ use rows_words::words;
 use rows_words::words::SHORT;
 use rows_words::words::WORDS;
 use rows_words::words::word;
+use snapshot::GovernorStats;
 use snapshot::SnapshotAnswer;
 use state::GovernorState;
 use state::Observed;
@@ -58,11 +59,20 @@ fn kept(state: GovernorState) -> Observed {
     Observed { refusal: 0, state }
 }
 
+// The call that reports what was done.
+fn reported(call: u64, s: GovernorState, n: u64, m: u64) -> Observed {
+    match call {
+        41 => report::with_trivial_move(s, n),
+        42 => report::with_outcome(s, n, m),
+        43 => lending::moved(s, n),
+        _ => lending::outcome(s, n, m),
+    }
+}
+
 // The call that answers a state, and a refusal or none.
 fn observed(call: u64, args: &[u64; WORDS]) -> Observed {
     let s = states::state(args);
     let n = word(args, 28);
-    let m = word(args, 29);
     match call {
         36 => kept(state::fresh(word(args, 0))),
         37 => kept(s.set_focus(states::focus_at(args, 28))),
@@ -72,10 +82,7 @@ fn observed(call: u64, args: &[u64; WORDS]) -> Observed {
         }
         39 => governor::observe(s, n, sample(args)),
         40 => engine::observe_engine(s, n, engine_sample(args), read_amp(args)),
-        41 => report::with_trivial_move(s, n),
-        42 => report::with_outcome(s, n, m),
-        43 => lending::moved(s, n),
-        _ => lending::outcome(s, n, m),
+        _ => reported(call, s, n, word(args, 29)),
     }
 }
 
@@ -97,28 +104,29 @@ fn numbers(call: u64, args: &[u64; WORDS]) -> [u64; 3] {
     }
 }
 
+fn stats_words(g: GovernorStats) -> [u64; 14] {
+    let mode = g.mode;
+    [
+        mode.idx(),
+        floats::to_bits(g.pressure),
+        floats::to_bits(g.pressure_vector.l0),
+        floats::to_bits(g.pressure_vector.deep_debt),
+        floats::to_bits(g.pressure_vector.read),
+        g.mode_switches,
+        g.time_balanced_ms,
+        g.time_read_protect_ms,
+        g.time_write_emergency_ms,
+        floats::to_bits(g.avg_batch_size),
+        g.trivial_moves_performed,
+        g.trivial_move_bytes_avoided,
+        g.predicted_actual_samples,
+        floats::to_bits(g.predicted_actual_mean_abs_pct_error),
+    ]
+}
+
 fn snapshot_told(args: &[u64; WORDS]) -> [u64; SHORT] {
     match snapshot::snapshot(states::state(args), word(args, 28)) {
-        SnapshotAnswer::Stats(g) => {
-            let mode = g.mode;
-            let list = [
-                mode.idx(),
-                floats::to_bits(g.pressure),
-                floats::to_bits(g.pressure_vector.l0),
-                floats::to_bits(g.pressure_vector.deep_debt),
-                floats::to_bits(g.pressure_vector.read),
-                g.mode_switches,
-                g.time_balanced_ms,
-                g.time_read_protect_ms,
-                g.time_write_emergency_ms,
-                floats::to_bits(g.avg_batch_size),
-                g.trivial_moves_performed,
-                g.trivial_move_bytes_avoided,
-                g.predicted_actual_samples,
-                floats::to_bits(g.predicted_actual_mean_abs_pct_error),
-            ];
-            words::told(&[0], &list)
-        }
+        SnapshotAnswer::Stats(g) => words::told(&[0], &stats_words(g)),
         SnapshotAnswer::Refused(refusal) => words::told(&[refusal], &[]),
     }
 }

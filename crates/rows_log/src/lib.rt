@@ -108,23 +108,21 @@ fn filled(start: DecisionLog, words: &mut [u64], n: u64) -> DecisionLog {
     log
 }
 
+// The digest of what is read of a log into zeros.
+fn digest_of_kept(log: DecisionLog, words: &[u64]) -> u64 {
+    let mut room = [0u64; SEEDED];
+    let out = &mut room[0..57344];
+    recent::recent_decisions(log, words, out);
+    rows_seeded::digest(out)
+}
+
 fn run(args: &[u64; WORDS]) -> [u64; SHORT] {
     let mut buffer = rows_seeded::seeded(word(args, 3));
-    let words = &mut buffer[0..SEEDED - 1];
+    let words = &mut buffer[0..57344];
     let log = filled(log_at(args), words, word(args, 4));
-    let mut room = [0u64; SEEDED];
-    let out = &mut room[0..SEEDED - 1];
-    recent::recent_decisions(log, words, out);
-    words::told(
-        &[
-            log.first,
-            log.count,
-            log.sequence,
-            rows_seeded::digest(words),
-            rows_seeded::digest(out),
-        ],
-        &[],
-    )
+    let digest = rows_seeded::digest(words);
+    let kept = digest_of_kept(log, words);
+    words::told(&[log.first, log.count, log.sequence, digest, kept], &[])
 }
 
 pub fn answer(call: u64, args: &[u64; WORDS]) -> [u64; SHORT] {

@@ -1,4 +1,6 @@
-// The calls of estimates, scores, choice and the decision that a choice leads to.
+// The calls of candidates, estimates, scores, choice and the decision that a choice leads to.
+pub mod generated;
+
 ghost use Prim.Native.Nat.{_≤_};
 use arith::floats;
 use candidate_records::CandidateEstimate;

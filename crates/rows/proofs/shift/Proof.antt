@@ -11,4 +11,4 @@ abbrev μ-loop : tie.MeasureT-loop
 μ-loop text₀ from end last first kept i₀ text i = kept - i
 
 pub shift-spec : {M : Type 1} → statement M
-shift-spec = tie.close (tie.spec Inv-loop μ-loop (search needs) (search needs))
+shift-spec = tie.close (tie.spec Inv-loop μ-loop (search needs) (search needs) (search needs) (search needs) (search needs) (search needs) (search needs) (search needs) (search needs) (search needs) (search needs) (search needs) (search needs))

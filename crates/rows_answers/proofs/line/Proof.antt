@@ -4,10 +4,10 @@ use Rattle.rows_answers.proofs.line.Statement.{statement}
 use Rattle.rows_answers.proofs.line.Tie as tie
 
 abbrev Inv-loop : tie.InvT-loop
-Inv-loop out₀ at shape words left₀ place₀ to₀ lf out left place to = Unit {0}
+Inv-loop out₀ at shape words left₀ place₀ to₀ out left place to = Unit {0}
 
 abbrev μ-loop : tie.MeasureT-loop
-μ-loop out₀ at shape words left₀ place₀ to₀ lf out left place to = left
+μ-loop out₀ at shape words left₀ place₀ to₀ out left place to = left
 
 pub line-spec : {M : Type 1} → statement M
 line-spec = tie.close (tie.spec Inv-loop μ-loop (search needs) (search needs) (search needs) (search needs) (search needs) (search needs) (search needs) (search needs) (search needs) (search needs) (search needs) (search needs) (search needs))
