@@ -1,6 +1,5 @@
 // Answers questions: reads standard input, and writes one line for each line of it (docs/ROWS.md).
 use rows_answers::OUT;
-use rows_merges::generated;
 use rows_state::arithmetic;
 use rows_tables::placed;
 use rows_words::shape;
@@ -41,7 +40,7 @@ fn put_answer(call: u64, args: &[u64; WORDS], bytes: &[u8; BYTES], told: &mut [u
     match call {
         19..=23 => words::put_bytes(told, 0, rows_keys::key_of(call, args, bytes)),
         26..=28 => placed::put_answer(call, args, bytes, told),
-        29 => generated::put_answer(args, bytes, told),
+        29 => rows_candidates::put_answer(args, bytes, told),
         46 => rows_merges::put_estimates(args, told),
         58 | 59 => rows_replay::put_answer(call, args, bytes, told),
         60 => {

@@ -1,6 +1,4 @@
-// The calls of candidates, estimates, scores, choice and the decision that a choice leads to.
-pub mod generated;
-
+// The calls of estimates, scores, choice and the decision that a choice leads to.
 ghost use Prim.Native.Nat.{_≤_};
 use arith::floats;
 use candidate_records::CandidateEstimate;

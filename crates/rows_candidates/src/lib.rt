@@ -36,7 +36,9 @@ fn put_candidates(
     let end = words::put_list(out, 3, words::part(args, fifth));
     let last = words::put_list(numbers, 0, words::part(args, words::after(args, fifth, 1)));
     let g = generated(args, bytes, out, end, numbers, last);
-    words::put_all(out, 0, &[g.refusal, g.candidates as u64, g.numbers as u64]);
+    out[0] = g.refusal;
+    out[1] = g.candidates as u64;
+    out[2] = g.numbers as u64;
     words::put_list(out, end, words::part(numbers, 0));
 }
 
