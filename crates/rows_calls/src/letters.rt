@@ -45,7 +45,7 @@ fn is_list(letter: u8, list: &[u64]) -> bool {
     }
 }
 
-// Where bytes that begin at a place end at most: all byte lists of a question before a place; a replay's text before another, and the room that it is lent behind as many; 0 for other lists.
+// The most that a list of bytes from a place on may end at: for the byte lists of a question all together, for a replay's text, and for the room that it is lent, which counts from its own start; 0 for other lists.
 fn limit(letter: u8, at: usize) -> usize {
     match letter {
         b'B' => 65536,

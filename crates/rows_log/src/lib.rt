@@ -2,6 +2,7 @@
 ghost use Prim.Native.Nat.{_≤_};
 use decisions::DecisionRead;
 use log::DecisionLog;
+use recent::Recent;
 use recording::Recorded;
 use rows_seeded::SEEDED;
 use rows_words::words;
@@ -47,31 +48,41 @@ fn recorded(log: DecisionLog, words: &mut [u64], list: &[u64]) -> Recorded {
 
 // ---- one decision
 
-fn record(args: &[u64; WORDS]) -> [u64; SHORT] {
-    let seed = word(args, 4);
-    let mut buffer = rows_seeded::seeded(seed);
-    let n = length_at(args, 3);
-    let words = &mut buffer[0..n];
-    let r = recorded(log_at(args), words, words::part(args, 5));
+fn record_told(r: Recorded, words: &[u64], seed: u64) -> [u64; SHORT] {
     let told = words::told(&[r.refusal, r.log.first, r.log.count, r.log.sequence], &[]);
     rows_seeded::changes(told, words, seed)
 }
 
+fn record(args: &[u64; WORDS]) -> [u64; SHORT] {
+    let log = log_at(args);
+    let list = words::part(args, 5);
+    let seed = word(args, 4);
+    let n = length_at(args, 3);
+    let mut buffer = rows_seeded::seeded(seed);
+    let words = &mut buffer[0..n];
+    let r = recorded(log, words, list);
+    record_told(r, words, seed)
+}
+
 // ---- the kept decisions
 
+fn recent_told(r: Recent, out: &[u64], seed: u64) -> [u64; SHORT] {
+    let changes = rows_seeded::changes([0; SHORT], out, seed);
+    let digest = rows_seeded::digest(out);
+    words::told(&[r.refusal, r.count, digest, changes[4] / 2], &[])
+}
+
 fn recent(args: &[u64; WORDS]) -> [u64; SHORT] {
+    let log = log_at(args);
     let seed = word(args, 6);
-    let words = rows_seeded::seeded(word(args, 4));
-    let mut room = rows_seeded::seeded(seed);
     let n = length_at(args, 3);
     let m = length_at(args, 5);
+    let buffer = rows_seeded::seeded(word(args, 4));
+    let words = &buffer[0..n];
+    let mut room = rows_seeded::seeded(seed);
     let out = &mut room[0..m];
-    let r = recent::recent_decisions(log_at(args), &words[0..n], out);
-    let changes = rows_seeded::changes([0; SHORT], out, seed);
-    words::told(
-        &[r.refusal, r.count, rows_seeded::digest(out), changes[4] / 2],
-        &[],
-    )
+    let r = recent::recent_decisions(log, words, out);
+    recent_told(r, out, seed)
 }
 
 // ---- many decisions
@@ -110,19 +121,26 @@ fn filled(start: DecisionLog, words: &mut [u64], n: u64) -> DecisionLog {
 
 // The digest of what is read of a log into zeros.
 fn digest_of_kept(log: DecisionLog, words: &[u64]) -> u64 {
+    let n = words.len();
     let mut room = [0u64; SEEDED];
-    let out = &mut room[0..57344];
+    let out = words::room(&mut room, 0, n);
     recent::recent_decisions(log, words, out);
     rows_seeded::digest(out)
 }
 
-fn run(args: &[u64; WORDS]) -> [u64; SHORT] {
-    let mut buffer = rows_seeded::seeded(word(args, 3));
-    let words = &mut buffer[0..57344];
-    let log = filled(log_at(args), words, word(args, 4));
+fn run_told(log: DecisionLog, words: &[u64]) -> [u64; SHORT] {
     let digest = rows_seeded::digest(words);
     let kept = digest_of_kept(log, words);
     words::told(&[log.first, log.count, log.sequence, digest, kept], &[])
+}
+
+fn run(args: &[u64; WORDS]) -> [u64; SHORT] {
+    let start = log_at(args);
+    let n = word(args, 4);
+    let mut buffer = rows_seeded::seeded(word(args, 3));
+    let words = words::room(&mut buffer, 0, 57344);
+    let log = filled(start, words, n);
+    run_told(log, words)
 }
 
 pub fn answer(call: u64, args: &[u64; WORDS]) -> [u64; SHORT] {

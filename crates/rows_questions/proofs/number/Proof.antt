@@ -2,6 +2,7 @@
 use lib.ListN.{length}
 use Prim.Native.Nat.{_-_, _<_, _^_}
 use borrow.Author.Needs.{needs}
+use native.Mathlib.Omega.{arith}
 use Rattle.rows_questions.proofs.number.Statement.{statement}
 use Rattle.rows_questions.proofs.number.Tie as tie
 
@@ -12,4 +13,4 @@ abbrev μ-loop : tie.MeasureT-loop
 μ-loop line from value₀ i₀ value i = length line - i
 
 pub number-spec : {M : Type 1} → statement M
-number-spec = tie.close (tie.spec Inv-loop μ-loop (search needs) (search needs) (search needs) (search needs) (search needs) (search needs) (search needs) (search needs) (search needs) (search needs) (search needs))
+number-spec = tie.close (tie.spec Inv-loop μ-loop (search needs) (λ c. omega arith) (search needs) (λ c. omega arith) (λ c. omega arith) (λ c. omega arith) (λ c. omega arith) (λ c. omega arith) (search needs) (search needs) (search needs))

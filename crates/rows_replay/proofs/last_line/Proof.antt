@@ -2,6 +2,7 @@
 use lib.ListN.{length}
 use Prim.Native.Nat.{_≤_}
 use borrow.Author.Needs.{needs}
+use native.Mathlib.Omega.{arith}
 use Rattle.rows_replay.proofs.last_line.Statement.{statement}
 use Rattle.rows_replay.proofs.last_line.Tie as tie
 
@@ -12,4 +13,4 @@ abbrev μ-loop : tie.MeasureT-loop
 μ-loop output start₀ start = start
 
 pub last-line-spec : {M : Type 1} → statement M
-last-line-spec = tie.close (tie.spec Inv-loop μ-loop (search needs) (search needs) (search needs) (search needs) (search needs) (search needs) (search needs) (search needs) (search needs))
+last-line-spec = tie.close (tie.spec Inv-loop μ-loop (search needs) (λ c. omega arith) (λ c. omega arith) (search needs) (search needs) (search needs) (λ c. omega arith) (search needs) (search needs))

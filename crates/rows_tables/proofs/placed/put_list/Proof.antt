@@ -2,6 +2,7 @@
 use lib.ListN.{length}
 use Prim.Native.Nat.{_-_}
 use borrow.Author.Needs.{needs}
+use native.Mathlib.Omega.{arith}
 use Rattle.rows_tables.proofs.placed.put_list.Statement.{statement}
 use Rattle.rows_tables.proofs.placed.put_list.Tie as tie
 
@@ -12,4 +13,4 @@ abbrev μ-loop : tie.MeasureT-loop
 μ-loop out₀ at places to₀ i₀ out to i = length places - i
 
 pub put-list-spec : {M : Type 1} → statement M
-put-list-spec = tie.close (tie.spec Inv-loop μ-loop (search needs) (search needs) (search needs) (search needs) (search needs) (search needs) (search needs) (search needs) (search needs) (search needs))
+put-list-spec = tie.close (tie.spec Inv-loop μ-loop (search needs) (search needs) (search needs) (λ c. omega arith) (λ c. omega arith) (search needs) (λ c. omega arith) (λ c. omega arith) (search needs) (search needs))

@@ -2,6 +2,7 @@
 use lib.ListN.{length}
 use Prim.Native.Nat.{_-_, _≤_}
 use borrow.Author.Needs.{needs}
+use native.Mathlib.Omega.{arith}
 use Rattle.rows_words.proofs.words.find.Statement.{statement}
 use Rattle.rows_words.proofs.words.find.Tie as tie
 
@@ -12,4 +13,4 @@ abbrev μ-loop : tie.MeasureT-loop
 μ-loop s from b i₀ i = length s - i
 
 pub find-spec : {M : Type 1} → statement M
-find-spec = tie.close (tie.spec Inv-loop μ-loop (search needs) (search needs) (search needs) (search needs) (search needs) (search needs) (search needs))
+find-spec = tie.close (tie.spec Inv-loop μ-loop (search needs) (λ c. omega arith) (λ c. omega arith) (λ c. omega arith) (search needs) (search needs) (search needs))
