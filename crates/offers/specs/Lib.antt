@@ -1,5 +1,4 @@
--- Ranges and batches, and their laws.
+-- Batches, and their laws.
 pub mod Offers
-pub mod Ranges
 pub mod Batches
 pub mod Least

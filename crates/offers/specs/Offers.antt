@@ -1,4 +1,4 @@
--- The range of some tables, what a batch holds, and where batches start. Definitions only.
+-- What a batch holds, and where in a level in key order batches start. Definitions only.
 use Prim.Native.Nat.{ℕ, suc}
 use mathlib.Core.Path.{_≡_}
 use mathlib.Core.Bool.{cond}
@@ -6,34 +6,8 @@ use mathlib.Core.List.{List, [], _∷_}
 use lib.ListN.{length, take}
 use lib.Dec.{ltb}
 use Rattle.records.specs.declared.tables.Table.{Table}
-use Rattle.records.specs.Tables.{tableAt, firstKey, lastKey}
-use Rattle.keys.specs.Keys.{lesserOf, greaterOf}
+use Rattle.records.specs.Tables.{tableAt}
 use Rattle.offers.specs.declared.batches.Batch.{Batch}
-
--- ---- ranges: the smallest first key and the largest last key of the tables at some places
-
--- one end of the range: of two keys `pick` takes one, and `key` is the key at a place
-unfoldable pub endFrom : (List ℕ → List ℕ → List ℕ) → (ℕ → List ℕ) → List ℕ → List ℕ → List ℕ
-endFrom pick key best [] = best
-endFrom pick key best (p ∷ ps) = endFrom pick key (pick best (key p)) ps
-
-unfoldable pub endOf : (List ℕ → List ℕ → List ℕ) → (ℕ → List ℕ) → List ℕ → List ℕ
-endOf pick key [] = []
-endOf pick key (p ∷ ps) = endFrom pick key (key p) ps
-
-abbrev pub firstAt : List ℕ → List Table → ℕ → List ℕ
-firstAt ks ts p = firstKey ks (tableAt ts p)
-
-abbrev pub lastAt : List ℕ → List Table → ℕ → List ℕ
-lastAt ks ts p = lastKey ks (tableAt ts p)
-
-abbrev pub lowOf : List ℕ → List Table → List ℕ → List ℕ
-lowOf ks ts ps = endOf lesserOf (firstAt ks ts) ps
-
-abbrev pub highOf : List ℕ → List Table → List ℕ → List ℕ
-highOf ks ts ps = endOf greaterOf (lastAt ks ts) ps
-
--- ---- batches: the places they hold, and where in a level in key order they start
 
 -- the places that a batch holds
 abbrev pub heldIn : Batch → List ℕ

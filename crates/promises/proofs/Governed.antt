@@ -10,11 +10,11 @@ use Rattle.state.specs.declared.GovernorState.{GovernorState}
 use Rattle.state.specs.State.{freshOf}
 use Rattle.governor.specs.Observe.{observeChecks, observeFault, observedOf}
 use Rattle.engine.specs.Engine.{engineChecks, engineFault, engineOf}
-use Rattle.promises.specs.Reading.{Observation, sampled, counted}
-use Rattle.promises.specs.Calls.{Action, observe, answerOf, after, observations}
+use Rattle.governor_promises.specs.Reading.{Observation, sampled, counted}
+use Rattle.governor_promises.specs.Calls.{Action, observe, answerOf, after, observations}
 use Rattle.promises.specs.Vector.{InUnits, NoneBelow}
 use Rattle.promises.specs.Round.{RoundInput, Governed}
-use Rattle.promises.proofs.Sound.{source-never-bad-state}
+use Rattle.governor_promises.proofs.Sound.{source-never-bad-state}
 use Rattle.promises.proofs.Vector.{source-vector-in-unit}
 use Rattle.promises.proofs.Round.{round}
 

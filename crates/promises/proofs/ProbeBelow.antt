@@ -17,7 +17,7 @@ use Rattle.pressure.specs.Sample.{fractionOf}
 use Rattle.pressure.specs.Smoothing.{smoothedOf}
 use Rattle.pressure.specs.Pressure.{componentsOf, blendedOf, signalsOf}
 use Rattle.governor.specs.Observe.{countersFull, observeFault, acceptedOf, observedOf}
-use Rattle.promises.specs.Calls.{Action, after}
+use Rattle.governor_promises.specs.Calls.{Action, after}
 use Rattle.promises.specs.Rows.{sample, atZero}
 use Rattle.promises.proofs.Vector.{reached}
 

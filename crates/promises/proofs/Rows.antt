@@ -12,7 +12,7 @@ use Rattle.modes.specs.Mode.{nextModeOf}
 use Rattle.sound.specs.Sound.{soundOf}
 use Rattle.state.specs.Clock.{timesOf}
 use Rattle.governor.specs.Observe.{countersFull, observeFault, acceptedOf, observedOf}
-use Rattle.promises.specs.Calls.{modes, accepted}
+use Rattle.governor_promises.specs.Calls.{modes, accepted}
 use Rattle.promises.specs.Rows.{holds, all, rows}
 use Rattle.keys.specs.Keys.{orderOf, keyLt, keyLe, lesserOf, greaterOf}
 use Rattle.lists.specs.Any.{anyOf}
@@ -25,7 +25,8 @@ use Rattle.faults.specs.Tables.{brokenTables, brokenKeys, levelsOut}
 use Rattle.candidate_faults.specs.Candidates.{fitsKind, inUnit, estimateOut}
 use Rattle.levels.specs.Levels.{byKey}
 use Rattle.overlaps.specs.Overlaps.{overlaps}
-use Rattle.offers.specs.Offers.{endFrom, endOf, seedFrom, seedOf}
+use Rattle.ranges.specs.Ranges.{endFrom, endOf}
+use Rattle.offers.specs.Offers.{seedFrom, seedOf}
 use Rattle.trivial_moves.specs.Moves.{isFree, moveBefore, movesOf}
 use Rattle.writers.specs.Writers.{mergedOf}
 use Rattle.l0_words.specs.L0.{l0Offers}

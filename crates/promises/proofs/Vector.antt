@@ -33,10 +33,10 @@ use Rattle.report.specs.Counters.{chosenOf, moveFault, trivialMoveOf, outcomeFa
 use Rattle.snapshot.specs.Snapshot.{snapshotOf, snapshotRefusal}
 use Rattle.choice.specs.Choice.Call.{pickChecks, pickFault, pickedOf}
 use Rattle.choice.specs.Choice.Refusal.{picked-refusal}
-use Rattle.promises.specs.Reading.{Observation, sampled, counted}
-use Rattle.promises.specs.Calls.{Action, observe, move, outcome, choose, focus, snapshot, acted, after, accepted, observed, observations}
+use Rattle.governor_promises.specs.Reading.{Observation, sampled, counted}
+use Rattle.governor_promises.specs.Calls.{Action, observe, move, outcome, choose, focus, snapshot, acted, after, accepted, observed, observations}
 use Rattle.promises.specs.Vector.{InUnits, NoneBelow}
-use Rattle.promises.proofs.Answers.{Says, by-fault, by-same, newOf, by-answer}
+use Rattle.governor_promises.proofs.Answers.{Says, by-fault, by-same, newOf, by-answer}
 
 abbrev RangedIn : GovernorState → Type 0
 RangedIn s = Ranged (s .signals)

@@ -1,7 +1,4 @@
 -- What a caller may rely on: the statements' own definitions.
-pub mod Reading
-pub mod Calls
-pub mod Counts
 pub mod Drawn
 pub mod Rows
 pub mod Vector

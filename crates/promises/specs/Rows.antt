@@ -20,8 +20,8 @@ use Rattle.estimates.specs.Estimate.Call.{estimateWords, estimatedOf}
 use Rattle.choice.specs.declared.Picked.{Picked}
 use Rattle.choice.specs.Choice.{noFocus}
 use Rattle.choice.specs.Choice.Call.{pickedOf}
-use Rattle.promises.specs.Reading.{sampled}
-use Rattle.promises.specs.Calls.{Action, observe, modes, accepted}
+use Rattle.governor_promises.specs.Reading.{sampled}
+use Rattle.governor_promises.specs.Calls.{Action, observe, modes, accepted}
 
 -- floats stand as their bits
 pub data Row : Type 0 where

@@ -6,7 +6,7 @@ use lib.Ieee.{lt}
 use Rattle.arith.specs.Floats.{f0}
 use Rattle.kinds.specs.declared.vector.PressureVector.{PressureVector}
 use Rattle.candidate_faults.specs.Candidates.{inUnit}
-use Rattle.promises.specs.Reading.{Observation, sampled, counted}
+use Rattle.governor_promises.specs.Reading.{Observation, sampled, counted}
 
 pub record InUnits (v : PressureVector) : Type 0 where
   pub l0 : inUnit (v .l0) ≡ true

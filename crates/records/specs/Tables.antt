@@ -44,6 +44,13 @@ firstKey ks t = take (t .«first_len») (drop (t .«first_start») ks)
 unfoldable pub lastKey : List ℕ → Table → List ℕ
 lastKey ks t = take (t .«last_len») (drop (t .«last_start») ks)
 
+-- those of the table at a place
+abbrev pub firstAt : List ℕ → List Table → ℕ → List ℕ
+firstAt ks ts p = firstKey ks (tableAt ts p)
+
+abbrev pub lastAt : List ℕ → List Table → ℕ → List ℕ
+lastAt ks ts p = lastKey ks (tableAt ts p)
+
 -- r is a table's key: where it stands among the key bytes, and its bytes
 abbrev pub IsFirstKey : Bytes → Table → Bytes → Type 0
 IsFirstKey ks t r = StartsAt ks (t .«first_start») r × (now r ≡ firstKey (now ks) t)

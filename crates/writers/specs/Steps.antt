@@ -10,7 +10,7 @@ use Rattle.records.specs.declared.tables.Table.{Table}
 use Rattle.records.specs.Tables.{tableAt}
 use Rattle.lists.specs.Filter.{filterOf, filter-small}
 use Rattle.overlaps.specs.Overlaps.{meets}
-use Rattle.offers.specs.Offers.{lowOf, highOf}
+use Rattle.ranges.specs.Ranges.{lowOf, highOf}
 use Rattle.writers.specs.Writers.{numbersOf, mergedOf}
 
 pub numbers-more : (ts : List Table) (ps : List ℕ) (i : ℕ) → i < length ps → numbersOf ts (drop i ps) ≡ tableAt ts (getD ps i 0) .number ∷ numbersOf ts (drop (i + 1) ps)

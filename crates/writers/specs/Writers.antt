@@ -4,7 +4,7 @@ use mathlib.Core.List.{List, _++_, map}
 use Rattle.records.specs.declared.tables.Table.{Table}
 use Rattle.records.specs.Tables.{tableAt}
 use Rattle.overlaps.specs.Overlaps.{overlappingOf}
-use Rattle.offers.specs.Offers.{lowOf, highOf}
+use Rattle.ranges.specs.Ranges.{lowOf, highOf}
 
 abbrev pub numbersOf : List Table → List ℕ → List ℕ
 numbersOf ts ps = map (λ p. tableAt ts p .number) ps

@@ -10,7 +10,6 @@ ghost use Rattle.writers.specs.Writers.{numbersOf, mergedIn, mergedOf};
 use counts::smaller;
 use offers::MAX_ADAPTIVE_BATCH;
 use offers::batches::Batch;
-use offers::ranges;
 use records::tables::number_at;
 
 fn put_numbers(tables: &[u64], places: &[usize], out: &mut [u64], at: usize) -> usize

@@ -24,11 +24,11 @@ use Rattle.governor.specs.Observe.{acceptedOf, observeChecks, observeFault, obs
 use Rattle.engine.specs.Engine.{sampleOf, engineChecks, engineFault, engineOf}
 use Rattle.report.specs.Counters.{chosenOf, moveChecks, moveFault, trivialMoveOf, outcomeChecks, outcomeFault, outcomeOf}
 use Rattle.snapshot.specs.Snapshot.{snapshotChecks, snapshotFault}
-use Rattle.promises.specs.Reading.{Observation, sampled, counted, Seen, seenOf}
-use Rattle.promises.specs.Calls.{Action, observe, move, outcome, choose, focus, snapshot, answerOf, acted, after}
-use Rattle.promises.proofs.Thresholds.{source-apart}
-use Rattle.promises.proofs.Turns.{at, grown, ends-in, window, turned, longer, by-turn}
-use Rattle.promises.proofs.Answers.{by-fault, newOf, by-answer, snapshot-fault}
+use Rattle.governor_promises.specs.Reading.{Observation, sampled, counted, Seen, seenOf}
+use Rattle.governor_promises.specs.Calls.{Action, observe, move, outcome, choose, focus, snapshot, answerOf, acted, after}
+use Rattle.governor_promises.proofs.Thresholds.{source-apart}
+use Rattle.governor_promises.proofs.Turns.{at, grown, ends-in, window, turned, longer, by-turn}
+use Rattle.governor_promises.proofs.Answers.{by-fault, newOf, by-answer, snapshot-fault}
 
 abbrev quiet : List Check → Type 0
 quiet cs = anyOf (λ c. eqb (c .number) badState && c .found) cs ≡ false

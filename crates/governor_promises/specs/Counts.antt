@@ -9,7 +9,7 @@ use Rattle.kinds.specs.Tuning.{Tuning}
 use Rattle.state.specs.declared.GovernorState.{GovernorState}
 use Rattle.sound.specs.Sound.{differ}
 use Rattle.report.specs.Counters.{errorOf}
-use Rattle.promises.specs.Calls.{Action, observe, move, outcome, choose, focus, snapshot, accepted}
+use Rattle.governor_promises.specs.Calls.{Action, observe, move, outcome, choose, focus, snapshot, accepted}
 
 -- what the accepted calls of a run have of something, in order
 abbrev pub gathered : {A : Type 0} → (Action → List A) → Tuning → GovernorState → List Action → List A

@@ -1,4 +1,4 @@
--- `offers::ranges::low_from` meets its contract. The measure is what is left of the places from i on.
+-- `ranges::low_from` meets its contract. The measure is what is left of the places from i on.
 use mathlib.Core.Path.{_∙_, ap}
 use Prim.Native.Nat.{ℕ, _-_, _<_}
 use native.Mathlib.Omega.{arith}
@@ -7,19 +7,18 @@ use denote.Ref.{now}
 use borrow.Fn.Kinds.{In}
 use borrow.Fn.PlainCycle.{Measures, is, falls, and}
 use borrow.Author.Needs.{needs}
-use Rattle.records.specs.Tables.{tablesOf}
+use Rattle.records.specs.Tables.{tablesOf, firstAt}
 use Rattle.keys.specs.Keys.{lesserOf}
 use Rattle.keys.specs.Lesser.{lesser-bytes}
-use Rattle.offers.specs.Offers.{firstAt}
-use Rattle.offers.specs.Ranges.{end-more, end-last}
-use Rattle.offers.proofs.ranges.low_from.Reads as low-from
-use Rattle.offers.proofs.ranges.low_from.Kinds as low-from-kinds
-use Rattle.offers.proofs.ranges.+low_from.Lts-low_from as lts
+use Rattle.ranges.specs.Steps.{end-more, end-last}
+use Rattle.ranges.proofs.low_from.Reads as low-from
+use Rattle.ranges.proofs.low_from.Kinds as low-from-kinds
+use Rattle.ranges.proofs.+low_from.Lts-low_from as lts
 use Rattle.keys.proofs.lesser.Reads as lesser-reads
 use Rattle.records.proofs.tables.first_key.Reads as first-key-reads
 use Rattle.records.proofs.tables.table_at.Reads as table-at-reads
-use Rattle.offers.proofs.ranges.+low_from.{statement}
-use Rattle.offers.proofs.ranges.+low_from.Tie.{close}
+use Rattle.ranges.proofs.+low_from.{statement}
+use Rattle.ranges.proofs.+low_from.Tie.{close}
 
 abbrev μ : Measures 3 low-from-kinds.ps ℕ
 μ κs a = length (a .1 .1 .0 .now) - a .1 .1 .1 .0

@@ -1,12 +1,12 @@
--- `offers::ranges::batch_low` meets its contract. Of a batch's places no more than eight are held, whatever its length says.
+-- `ranges::batch_low` meets its contract. Of a batch's places no more than eight are held, whatever its length says.
 use mathlib.Core.Path.{_≡_, sym}
 use native.Mathlib.Omega.{arith}
 use lib.ListN.{length}
 use lib.Seq.{length-take-le}
 use borrow.Author.Needs.{needs}
 use Rattle.offers.specs.Batches.{take-held}
-use Rattle.offers.proofs.ranges.batch_low.Statement.{statement}
-use Rattle.offers.proofs.ranges.batch_low.Tie as tie
+use Rattle.ranges.proofs.batch_low.Statement.{statement}
+use Rattle.ranges.proofs.batch_low.Tie as tie
 
 array-share-prefix-places : tie.Need-array-share-prefix-places
 array-share-prefix-places c = let z : length (c .before .before .before .before .args .b .places) ≡ 8 = search needs in omega arith

@@ -5,7 +5,7 @@ use lib.Ieee.{Float, ofBits, le, lt}
 use lib.Ieee.Fits.{and-l, and-r}
 use Rattle.arith.specs.Floats.Order.{le-trans, lt-not-le}
 use Rattle.kinds.specs.Tuning.{Tuning, source}
-use Rattle.promises.specs.Reading.{Seen, IsHot, HasRecovered, IsHigh, IsCalm, Apart}
+use Rattle.governor_promises.specs.Reading.{Seen, IsHot, HasRecovered, IsHigh, IsCalm, Apart}
 
 between : (leave enter x : Float) → T (lt leave enter) → T (le enter x) → T (le x leave) → ⊥
 between leave enter x p h k = lt-not-le leave enter p (le-trans enter x leave h k)

@@ -1,13 +1,12 @@
--- `offers::ranges::low` meets its contract.
+-- `ranges::low` meets its contract.
 use mathlib.Core.Path.{_∙_}
 use denote.Ref.{now}
 use borrow.Author.Needs.{needs}
 use Rattle.keys.specs.Keys.{lesserOf}
-use Rattle.offers.specs.Offers.{firstAt}
-use Rattle.offers.specs.Ranges.{end-none, end-some}
-use Rattle.records.specs.Tables.{tablesOf}
-use Rattle.offers.proofs.ranges.low.Statement.{statement}
-use Rattle.offers.proofs.ranges.low.Tie as tie
+use Rattle.records.specs.Tables.{firstAt, tablesOf}
+use Rattle.ranges.specs.Steps.{end-none, end-some}
+use Rattle.ranges.proofs.low.Statement.{statement}
+use Rattle.ranges.proofs.low.Tie as tie
 
 returns : tie.Need-returns
 returns c = c .part .ensures .1 ∙ end-none lesserOf _ _ (c .before .if1 .taken)

@@ -1,4 +1,4 @@
--- `offers::ranges::high_from` meets its contract. The measure is what is left of the places from i on.
+-- `ranges::high_from` meets its contract. The measure is what is left of the places from i on.
 use mathlib.Core.Path.{_∙_, ap}
 use Prim.Native.Nat.{ℕ, _-_, _<_}
 use native.Mathlib.Omega.{arith}
@@ -7,19 +7,18 @@ use denote.Ref.{now}
 use borrow.Fn.Kinds.{In}
 use borrow.Fn.PlainCycle.{Measures, is, falls, and}
 use borrow.Author.Needs.{needs}
-use Rattle.records.specs.Tables.{tablesOf}
+use Rattle.records.specs.Tables.{tablesOf, lastAt}
 use Rattle.keys.specs.Keys.{greaterOf}
 use Rattle.keys.specs.Lesser.{greater-bytes}
-use Rattle.offers.specs.Offers.{lastAt}
-use Rattle.offers.specs.Ranges.{end-more, end-last}
-use Rattle.offers.proofs.ranges.high_from.Reads as high-from
-use Rattle.offers.proofs.ranges.high_from.Kinds as high-from-kinds
-use Rattle.offers.proofs.ranges.+high_from.Lts-high_from as lts
+use Rattle.ranges.specs.Steps.{end-more, end-last}
+use Rattle.ranges.proofs.high_from.Reads as high-from
+use Rattle.ranges.proofs.high_from.Kinds as high-from-kinds
+use Rattle.ranges.proofs.+high_from.Lts-high_from as lts
 use Rattle.keys.proofs.greater.Reads as greater-reads
 use Rattle.records.proofs.tables.last_key.Reads as last-key-reads
 use Rattle.records.proofs.tables.table_at.Reads as table-at-reads
-use Rattle.offers.proofs.ranges.+high_from.{statement}
-use Rattle.offers.proofs.ranges.+high_from.Tie.{close}
+use Rattle.ranges.proofs.+high_from.{statement}
+use Rattle.ranges.proofs.+high_from.Tie.{close}
 
 abbrev μ : Measures 3 high-from-kinds.ps ℕ
 μ κs a = length (a .1 .1 .0 .now) - a .1 .1 .1 .0

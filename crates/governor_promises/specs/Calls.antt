@@ -15,7 +15,7 @@ use Rattle.governor.specs.Observe.{observedOf}
 use Rattle.engine.specs.Engine.{engineOf}
 use Rattle.report.specs.Counters.{chosenOf, trivialMoveOf, outcomeOf}
 use Rattle.snapshot.specs.Snapshot.{snapshotOf, snapshotRefusal}
-use Rattle.promises.specs.Reading.{Observation, sampled, counted}
+use Rattle.governor_promises.specs.Reading.{Observation, sampled, counted}
 
 -- an observation, at a clock reading; a trivial move, with the bytes that it avoided; an outcome, predicted and actual bytes;
 -- a candidate chosen; a focus set; a snapshot, at a clock reading

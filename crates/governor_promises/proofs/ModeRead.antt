@@ -13,10 +13,10 @@ use Rattle.modes.specs.declared.NextMode.{NextMode}
 use Rattle.kinds.specs.Tuning.{Tuning}
 use Rattle.kinds.specs.Numbers.{modeNumber}
 use Rattle.modes.specs.Mode.{next, switched}
-use Rattle.promises.specs.Reading.{Seen, IsHot, IsHigh, Each, InEmergency, InReadProtect, ReadsAs, Apart}
-use Rattle.promises.proofs.Streaks.{by-test, each-append, streak, Held, next-is, next-not, next-le, streak-next, held-no-row, no-row-held, no-row-next}
-use Rattle.promises.proofs.Thresholds.{hot-recovered, high-calm}
-use Rattle.promises.proofs.Turns.{at, own, grown, own-grown, ends-in, passes, window, Cuts, turned, longer, by-turn, step, run, run-append}
+use Rattle.governor_promises.specs.Reading.{Seen, IsHot, IsHigh, Each, InEmergency, InReadProtect, ReadsAs, Apart}
+use Rattle.governor_promises.proofs.Streaks.{by-test, each-append, streak, Held, next-is, next-not, next-le, streak-next, held-no-row, no-row-held, no-row-next}
+use Rattle.governor_promises.proofs.Thresholds.{hot-recovered, high-calm}
+use Rattle.governor_promises.proofs.Turns.{at, own, grown, own-grown, ends-in, passes, window, Cuts, turned, longer, by-turn, step, run, run-append}
 
 abbrev pub start : NextMode
 start = switched Balanced

@@ -8,7 +8,7 @@ use lib.Dec.{T, leb, leb→le, nleb→lt, not-T}
 use lib.ListN.{length, length-append}
 use lib.Seq.{append-snoc}
 use Rattle.modes.specs.Mode.{next}
-use Rattle.promises.specs.Reading.{Seen, Each, InARow}
+use Rattle.governor_promises.specs.Reading.{Seen, Each, InARow}
 
 pub by-test : {A : Type 0} (P : A → Type 0) (b : Bool) (x y : A) → (T b → P x) → (¬ T b → P y) → P (cond b x y)
 by-test P true x y f g = f tt

@@ -6,7 +6,7 @@ use native.Mathlib.Numerals.{add-one}
 use native.Mathlib.Omega.{arith}
 use lib.ListN.{length, drop, getD, drop-of-length-le}
 use lib.Seq.{drop-cons}
-use Rattle.offers.specs.Offers.{endFrom, endOf}
+use Rattle.ranges.specs.Ranges.{endFrom, endOf}
 
 module _ (pick : List ℕ → List ℕ → List ℕ) (key : ℕ → List ℕ) (ps : List ℕ) where
   -- `next` is what was picked at place i, and `r` what the places after it make of that

@@ -19,12 +19,12 @@ use Rattle.engine.specs.Engine.{perGet}
 use Rattle.report.specs.Counters.{chosenOf, moveFault, trivialMoveOf, outcomeFault, outcomeOf}
 use Rattle.snapshot.specs.Snapshot.{snapshotOf, snapshotRefusal}
 use Rattle.kinds.specs.declared.kind.CandidateKind.the-variants.{L0, LevelBatch, TrivialMove}
-use Rattle.promises.specs.Reading.{Observation, sampled, counted, Seen, seenFrom, seen, InEmergency, InReadProtect, ReadsAs, Apart}
-use Rattle.promises.specs.Calls.{Action, observe, move, outcome, choose, focus, snapshot, acted, after, modes, accepted, observed, observations}
-use Rattle.promises.proofs.Thresholds.{source-apart}
-use Rattle.promises.proofs.Turns.{at, run}
-use Rattle.promises.proofs.ModeRead.{mode-read}
-use Rattle.promises.proofs.Answers.{Says, by-fault, by-same, newOf, by-answer}
+use Rattle.governor_promises.specs.Reading.{Observation, sampled, counted, Seen, seenFrom, seen, InEmergency, InReadProtect, ReadsAs, Apart}
+use Rattle.governor_promises.specs.Calls.{Action, observe, move, outcome, choose, focus, snapshot, acted, after, modes, accepted, observed, observations}
+use Rattle.governor_promises.proofs.Thresholds.{source-apart}
+use Rattle.governor_promises.proofs.Turns.{at, run}
+use Rattle.governor_promises.proofs.ModeRead.{mode-read}
+use Rattle.governor_promises.proofs.Answers.{Says, by-fault, by-same, newOf, by-answer}
 
 abbrev turned : GovernorState → NextMode
 turned s = at (s .mode) (s .streaks)

@@ -1,13 +1,12 @@
--- `offers::ranges::high` meets its contract.
+-- `ranges::high` meets its contract.
 use mathlib.Core.Path.{_∙_}
 use denote.Ref.{now}
 use borrow.Author.Needs.{needs}
 use Rattle.keys.specs.Keys.{greaterOf}
-use Rattle.offers.specs.Offers.{lastAt}
-use Rattle.offers.specs.Ranges.{end-none, end-some}
-use Rattle.records.specs.Tables.{tablesOf}
-use Rattle.offers.proofs.ranges.high.Statement.{statement}
-use Rattle.offers.proofs.ranges.high.Tie as tie
+use Rattle.records.specs.Tables.{lastAt, tablesOf}
+use Rattle.ranges.specs.Steps.{end-none, end-some}
+use Rattle.ranges.proofs.high.Statement.{statement}
+use Rattle.ranges.proofs.high.Tie as tie
 
 returns : tie.Need-returns
 returns c = c .part .ensures .1 ∙ end-none greaterOf _ _ (c .before .if1 .taken)

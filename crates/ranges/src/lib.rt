@@ -1,15 +1,16 @@
 // The range of some tables: the smallest of their first keys and the largest of their last keys, each as that part of the key bytes. Nothing is refused: of no table it is the empty part.
 ghost use mathlib.Core.Path.{_≡_};
 ghost use lib.ListN.{drop};
-ghost use Rattle.records.specs.Tables.{tablesOf};
+ghost use Rattle.records.specs.Tables.{tablesOf, firstAt, lastAt};
 ghost use Rattle.keys.specs.Keys.{lesserOf, greaterOf};
-ghost use Rattle.offers.specs.Offers.{endFrom, lowOf, highOf, firstAt, lastAt, heldIn};
-use crate::MAX_ADAPTIVE_BATCH;
-use crate::batches::Batch;
+ghost use Rattle.ranges.specs.Ranges.{endFrom, lowOf, highOf};
+ghost use Rattle.offers.specs.Offers.{heldIn};
 use counts::smaller;
 use keys::greater;
 use keys::lesser;
 use keys::part;
+use offers::MAX_ADAPTIVE_BATCH;
+use offers::batches::Batch;
 use records::tables;
 
 pub fn batch_low<'a>(tables: &[u64], keys: &'a [u8], b: Batch) -> &'a [u8]

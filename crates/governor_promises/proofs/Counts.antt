@@ -21,10 +21,10 @@ use Rattle.governor.specs.Observe.{switches, acceptedOf}
 use Rattle.engine.specs.Engine.{sampleOf}
 use Rattle.report.specs.Counters.{chosenOf, moveFault, trivialMoveOf, outcomeFault, outcomeOf}
 use Rattle.snapshot.specs.Snapshot.{snapshotOf, snapshotRefusal}
-use Rattle.promises.specs.Reading.{Observation, sampled, counted}
-use Rattle.promises.specs.Calls.{Action, observe, move, outcome, choose, focus, snapshot, acted, after, modes, accepted}
-use Rattle.promises.specs.Counts.{gathered, bytesAvoided, batchLength, outcomeError, sumOf, addedTo, changes}
-use Rattle.promises.proofs.Answers.{Says, by-fault, by-same, newOf, by-answer}
+use Rattle.governor_promises.specs.Reading.{Observation, sampled, counted}
+use Rattle.governor_promises.specs.Calls.{Action, observe, move, outcome, choose, focus, snapshot, acted, after, modes, accepted}
+use Rattle.governor_promises.specs.Counts.{gathered, bytesAvoided, batchLength, outcomeError, sumOf, addedTo, changes}
+use Rattle.governor_promises.proofs.Answers.{Says, by-fault, by-same, newOf, by-answer}
 
 -- ---- lists
 

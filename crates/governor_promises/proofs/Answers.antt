@@ -16,8 +16,8 @@ use Rattle.state.specs.Clock.{timesOf}
 use Rattle.snapshot.specs.declared.SnapshotAnswer.the-variants.{Stats, Refused}
 use Rattle.snapshot.specs.Snapshot.{snapshotFault, statsOf, snapshotOf, snapshotRefusal, figures, snapshotNumbers}
 use Rattle.report.specs.Counters.{moveFault, trivialMoveOf, outcomeFault, outcomeOf}
-use Rattle.promises.specs.Reading.{Observation, sampled, counted}
-use Rattle.promises.specs.Calls.{Action, observe, move, outcome, choose, focus, snapshot, answerOf, acted}
+use Rattle.governor_promises.specs.Reading.{Observation, sampled, counted}
+use Rattle.governor_promises.specs.Calls.{Action, observe, move, outcome, choose, focus, snapshot, answerOf, acted}
 
 -- what a call says: whether it was accepted, and the state after it
 abbrev pub Says : (Bool → GovernorState → Type 0) → Observed → Type 0

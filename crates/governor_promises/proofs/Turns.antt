@@ -10,8 +10,8 @@ use Rattle.modes.specs.declared.NextMode.{NextMode}
 use Rattle.kinds.specs.Tuning.{Tuning}
 use Rattle.thresholds.specs.Thresholds.{hot, recovered, high, calm}
 use Rattle.modes.specs.Mode.{next, switched, nextModeOf}
-use Rattle.promises.specs.Reading.{Seen, IsHot}
-use Rattle.promises.proofs.Streaks.{by-test, by-order}
+use Rattle.governor_promises.specs.Reading.{Seen, IsHot}
+use Rattle.governor_promises.proofs.Streaks.{by-test, by-order}
 
 abbrev pub at : GovernorMode → Streaks → NextMode
 at m k = record { mode = m; streaks = k }
