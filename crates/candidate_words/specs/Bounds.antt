@@ -13,7 +13,7 @@ use Rattle.records.specs.Tables.{tablesOf, entriesOf}
 use Rattle.lists.specs.Tests.{neither}
 use Rattle.lists.specs.Filter.{places-small}
 use Rattle.lists.specs.Records.{tabulate}
-use Rattle.faults.specs.Tables.{levelsOut}
+use Rattle.faults.specs.Tables.{levelsOut, pastLimits}
 use Rattle.levels.specs.Levels.{atLevel, placesOf}
 use Rattle.levels.specs.Bounds.{byKey-small}
 use Rattle.offers.specs.Offers.{seedOf}
@@ -24,7 +24,7 @@ use Rattle.l0_words.specs.Words.{Offer, wordsFrom, numbersIn}
 use Rattle.l0_words.specs.L0.{l0Offers, lentL0}
 use Rattle.l0_words.specs.Written.{start}
 use Rattle.l0_words.specs.Laws.{l0-within}
-use Rattle.candidate_words.specs.Candidates.{batchOf, moveOffers, levelOffers, overOffers, offersOf, pastLimits, lentOffers}
+use Rattle.candidate_words.specs.Candidates.{batchOf, moveOffers, levelOffers, overOffers, offersOf, lentOffers}
 use Rattle.candidate_words.specs.Writing.{Fit, numbers-append}
 
 pub words-length : (i : ℕ) (cs : List Offer) → length (wordsFrom i cs) ≡ 6 * length cs

@@ -1,13 +1,13 @@
 -- The candidates of a list of tables, as the Rust's `generate_candidates` has them, on lists: filter, stable sort, minimum by number, take. A table goes by its place in the list. Definitions only.
 use Prim.Native.Nat.{ℕ, _+_, min}
-use mathlib.Core.Bool.{Bool, cond, _||_}
+use mathlib.Core.Bool.{cond}
 use mathlib.Core.List.{List, [], _∷_, _++_}
 use lib.ListN.{length, take, drop}
 use lib.Dec.{ltb}
 use Rattle.records.specs.declared.tables.Table.{Table}
 use Rattle.records.specs.declared.tables.Entry.{Entry}
 use Rattle.records.specs.Tables.{tablesOf, entriesOf}
-use Rattle.faults.specs.Tables.{tooManyTables, tooManyEntries, levelsOut}
+use Rattle.faults.specs.Tables.{pastLimits}
 use Rattle.lists.specs.Records.{tabulate}
 use Rattle.levels.specs.Levels.{placesOf, byKey}
 use Rattle.offers.specs.Offers.{seedOf}
@@ -43,9 +43,6 @@ unfoldable pub offersOf : List ℕ → List Table → ℕ → List Entry → Lis
 offersOf ks ts trigger es = l0Offers ks ts trigger ++ overOffers ks ts es
 
 -- ---- of lent words: none where tables or entries are too many, or a level has none below
-
-abbrev pub pastLimits : List ℕ → List ℕ → Bool
-pastLimits tables over = (tooManyTables tables || tooManyEntries over) || levelsOut over
 
 unfoldable pub lentOffers : List ℕ → List ℕ → ℕ → List ℕ → List Offer
 lentOffers tables keys trigger over =

@@ -1,7 +1,6 @@
 // The candidates for the next merge as words, written to two lent buffers: L0's, then each over-budget level's in order. Nothing is refused: what is past the limits offers nothing, and a word that would stand past a buffer's end is lost, so that a run over empty slices counts.
-ghost use mathlib.Core.Path.{_≡_};
 ghost use Rattle.l0_words.specs.Written.{Written, start};
-ghost use Rattle.candidate_words.specs.Candidates.{pastLimits, lentOffers};
+ghost use Rattle.candidate_words.specs.Candidates.{lentOffers};
 use l0_words::Ends;
 use records::tables;
 
@@ -9,14 +8,6 @@ mod batches;
 mod heads;
 mod level;
 mod moves;
-
-// Too many tables or entries, or a level with none below.
-fn past_limits(tables: &[u64], over: &[u64]) -> bool
-    ensures { λ r. ⌜ r ≡ pastLimits (now (tables .entry)) (now (over .entry)) ⌝ }
-{
-    let many = faults::tables::too_many_tables(tables) | faults::tables::too_many_entries(over);
-    many | faults::tables::levels_out(over)
-}
 
 pub fn put_candidates(
     tables: &[u64],
@@ -28,7 +19,7 @@ pub fn put_candidates(
 ) -> Ends
     ensures { λ r. ⌜ Written start (lentOffers (now (tables .entry)) (now (keys .entry)) trigger (now (over .entry))) (now (candidates .entry)) (now (candidates .exit)) (now (numbers .entry)) (now (numbers .exit)) r ⌝ }
 {
-    if past_limits(tables, over) {
+    if faults::tables::past_limits(tables, over) {
         return Ends {
             words: 0,
             numbers: 0,

@@ -45,3 +45,7 @@ levelOut e = ltb maxOverLevel (e .level)
 
 unfoldable pub levelsOut : List ℕ → Bool
 levelsOut ws = anyOf levelOut (entriesOf ws)
+
+-- past what can be offered of: 4 or 6
+abbrev pub pastLimits : List ℕ → List ℕ → Bool
+pastLimits tables over = (tooManyTables tables || tooManyEntries over) || levelsOut over

@@ -1,7 +1,7 @@
 // Bad tables and over-budget entries: too many (4), broken records (5), levels out of range (6).
 ghost use mathlib.Core.Path.{_≡_};
 ghost use lib.ListN.{length};
-ghost use Rattle.faults.specs.Tables.{tooManyTables, brokenTables, brokenKeys, tooManyEntries, brokenEntries, levelsOut, partOut};
+ghost use Rattle.faults.specs.Tables.{tooManyTables, brokenTables, brokenKeys, tooManyEntries, brokenEntries, levelsOut, pastLimits, partOut};
 use crate::limits;
 use records::tables;
 
@@ -68,6 +68,14 @@ pub fn levels_out(over: &[u64]) -> bool
         i += 1;
     }
     out
+}
+
+// Too many tables or entries, or a level with none below.
+pub fn past_limits(tables: &[u64], over: &[u64]) -> bool
+    ensures { λ r. ⌜ r ≡ pastLimits (now (tables .entry)) (now (over .entry)) ⌝ }
+{
+    let many = too_many_tables(tables) | too_many_entries(over);
+    many | levels_out(over)
 }
 
 // Whether a part reaches past `size`. Starts and lengths go up to 2^64 - 1, so their sum is never formed.

@@ -1,7 +1,7 @@
--- `candidate_words::past_limits` meets its contract.
+-- `faults::tables::past_limits` meets its contract.
 use borrow.Author.Needs.{needs}
-use Rattle.candidate_words.proofs.past_limits.Statement.{statement}
-use Rattle.candidate_words.proofs.past_limits.Tie as tie
+use Rattle.faults.proofs.tables.past_limits.Statement.{statement}
+use Rattle.faults.proofs.tables.past_limits.Tie as tie
 
 returns : tie.Need-returns
 returns c = rw (c .levels-out .ensures, c .before .too-many-entries .ensures, c .before .before .too-many-tables .ensures)
