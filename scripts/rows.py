@@ -10,7 +10,7 @@ The rows are those of scripts/parts, in this order. A part has a function rows()
 import importlib, os, sys
 
 FIRST = ["notation", "arith"]
-LAST = ["replay"]
+LAST = ["replay", "fits"]
 
 here = os.path.dirname(os.path.abspath(__file__))
 sys.dont_write_bytecode = True

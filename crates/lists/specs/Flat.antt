@@ -2,8 +2,8 @@
 use Prim.Native.Nat.{ℕ, _+_, _*_, _≤_, _<_}
 use native.Mathlib.Numerals.{add-one}
 use native.Mathlib.Omega.{arith}
-use mathlib.Core.Path.{_≡_}
-use mathlib.Core.List.{List, [], _∷_, _++_, flatMap}
+use mathlib.Core.Path.{_≡_, refl, sym, _∙_, ap}
+use mathlib.Core.List.{List, [], _∷_, _++_, flatMap, append-assoc}
 use lib.ListN.{length, drop, getD, length-append, drop-of-length-le}
 use lib.Seq.{drop-cons}
 
@@ -15,6 +15,11 @@ module _ {X Y : Type 0} (f : X → List Y) where
   pub flat-end : (xs : List X) (i : ℕ) → length xs ≤ i → flatMap f (drop i xs) ≡ []
   unfolding flatMap
   flat-end xs i h = rw (drop-of-length-le xs h)
+
+  pub flat-append : (xs ys : List X) → flatMap f (xs ++ ys) ≡ flatMap f xs ++ flatMap f ys
+  unfolding flatMap
+  flat-append [] ys = refl
+  flat-append (x ∷ xs) ys = ap (λ (l : List Y). f x ++ l) (flat-append xs ys) ∙ sym (append-assoc (f x) (flatMap f xs) (flatMap f ys))
 
   pub flat-length : (w : ℕ) → ((x : X) → length (f x) ≡ w) → (xs : List X) → length (flatMap f xs) ≡ w * length xs
   unfolding flatMap

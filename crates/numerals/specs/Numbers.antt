@@ -2,6 +2,7 @@
 pub mod Accepted
 pub mod Digits
 pub mod Reading
+pub mod Short
 use Prim.Native.Nat.{ℕ, zero, suc, _+_, _-_, _*_, _/_, _%_, _^_}
 use mathlib.Core.Bool.{Bool, true, false, cond, not, _&&_, _||_}
 use mathlib.Core.List.{List, [], _∷_, _++_}
@@ -14,6 +15,14 @@ use Rattle.numerals.specs.declared.Number.the-variants.{Value, None as N
 abbrev pub readNumbers : Number → List ℕ
 readNumbers NoNumber = 0 ∷ 0 ∷ []
 readNumbers (Value n) = 1 ∷ n ∷ []
+
+abbrev pub isValue : Number → Bool
+isValue (Value n) = true
+isValue NoNumber = false
+
+abbrev pub valueOf : Number → ℕ
+valueOf (Value n) = n
+valueOf NoNumber = 0
 
 abbrev pub isDigit : ℕ → Bool
 isDigit b = leb 48 b && leb b 57

@@ -1,3 +1,4 @@
--- The refusal numbers, which of several faults is given, and the laws of any list of checks.
+-- The refusal numbers, which of several faults is given, the laws of any list of checks, and an answer of bytes.
 pub mod Refusals
 pub mod Checks
+pub mod Written

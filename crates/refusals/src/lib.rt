@@ -11,10 +11,10 @@ pub const TOO_LARGE: u64 = 2;
 // The probe sum, the switches, the moves, the samples or a time sum would pass 2^64 - 1.
 pub const COUNTER_FULL: u64 = 3;
 
-// Over 1,024 tables, 16 over-budget entries, 145 candidates, or 1,024 numbers in one candidate.
+// Over 1,024 tables, 16 over-budget entries, 145 candidates, or 1,024 numbers in one candidate; over 4,096 lines or 1,110,016 bytes of a log's text.
 pub const TOO_MANY: u64 = 4;
 
-// A record buffer isn't whole records, paired buffers differ in record count, a table's level exceeds 2^32 - 1 or its size 2^40, a key part leaves the key bytes, or a candidate's kind, level, batch length or place is malformed.
+// A record buffer isn't whole records, paired buffers differ in record count, a table's level exceeds 2^32 - 1 or its size 2^40, a key part leaves the key bytes, or a candidate's kind, level, batch length or place is malformed; or a line of a log's text isn't fourteen numbers.
 pub const BAD_RECORD: u64 = 5;
 
 // An over-budget level exceeds 2^32 - 2.
@@ -31,3 +31,9 @@ pub const NO_ROOM: u64 = 9;
 
 // The log buffer isn't 57,344 words, its first place exceeds 4,095, or its count exceeds 4,096.
 pub const BAD_LOG: u64 = 10;
+
+// What a call answers that writes bytes to the front of a lent buffer: its refusal, and how many it wrote.
+pub struct Written {
+    pub refusal: u64,
+    pub length: usize,
+}

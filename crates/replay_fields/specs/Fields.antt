@@ -1,23 +1,14 @@
 -- The six fields of a line, and the observation that they are. Definitions only.
 use Prim.Native.Nat.{ℕ}
-use mathlib.Core.Bool.{Bool, true, false, cond, _&&_}
+use mathlib.Core.Bool.{cond, _&&_}
 use mathlib.Core.List.{List, []}
 use lib.ListN.{length, getD}
 use lib.Dec.{eqb}
 use lib.Ieee.{binary64, ofBits}
 use Rattle.numerals.specs.declared.Number.{Number}
-use Rattle.numerals.specs.declared.Number.the-variants.{Value, None as NoNumber}
-use Rattle.numerals.specs.Numbers.{decimalOf, bitsOf}
+use Rattle.numerals.specs.Numbers.{isValue, valueOf, decimalOf, bitsOf}
 use Rattle.replay_fields.specs.declared.Line.{Line}
 use Rattle.replay_fields.specs.declared.Line.the-variants.{Observation, None as NoLine}
-
-abbrev pub isValue : Number → Bool
-isValue (Value n) = true
-isValue NoNumber = false
-
-abbrev pub valueOf : Number → ℕ
-valueOf (Value n) = n
-valueOf NoNumber = 0
 
 -- clock, L0 count, trigger, ratio bits, probe bits, backlog
 unfoldable pub observation : Number → Number → Number → Number → Number → Number → Line

@@ -10,9 +10,8 @@ use numerals::Number;
 use numerals::bits;
 use numerals::decimal;
 use pressure::PressureSample;
+use replay_text::reader::COMMA;
 use replay_text::reader::find;
-
-pub const COMMA: u8 = 44;
 
 pub enum Line {
     Observation(u64, PressureSample),

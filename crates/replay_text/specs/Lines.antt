@@ -1,5 +1,6 @@
 -- Lines and fields of RFC 4180 without quotes: a line ends with LF or CRLF, the last end is optional, and fields are parted by commas. Definitions only.
 pub mod Fields
+pub mod Lengths
 pub mod NextLine
 pub mod Steps
 use Prim.Native.Nat.{ℕ, suc, _+_, _-_}

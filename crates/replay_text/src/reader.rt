@@ -6,6 +6,8 @@ ghost use Rattle.replay_text.specs.Lines.{findOf, endOf, lineAtOf};
 
 pub const LF: u8 = 10;
 
+pub const COMMA: u8 = 44;
+
 const CR: u8 = 13;
 
 // Where a line stands without its end, and where the next one begins.

@@ -31,6 +31,7 @@ fn short_answer(call: u64, args: &[u64; WORDS], bytes: &[u8; BYTES]) -> [u64; SH
         30..=45 => rows_governed::answer(call, args),
         49..=55 => rows_log::answer(call, args),
         56 | 57 => rows_replay::answer(call, args, bytes),
+        62 => rows_fits::answer(args),
         _ => rows_merges::answer(call, args),
     }
 }
@@ -46,6 +47,7 @@ fn put_answer(call: u64, args: &[u64; WORDS], bytes: &[u8; BYTES], told: &mut [u
         60 => {
             words::put_all(told, 0, args);
         }
+        63..=66 => rows_fits::put_answer(call, args, bytes, told),
         _ => {
             words::put_all(told, 0, &short_answer(call, args, bytes));
         }

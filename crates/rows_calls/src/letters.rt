@@ -4,7 +4,7 @@ use rows_words::words::BYTES;
 use rows_words::words::NO_ROOM;
 use rows_words::words::WORDS;
 
-// A number of a letter: a flag, a mode, a kind, a tier, a byte, 32 bits, a log's words, a run's decisions, a text's bytes, or any.
+// A number of a letter: a flag, a mode, a kind, a tier, a byte, 32 bits, a log's words, a run's decisions, the bytes of a text, of a table or of a log's text, or any.
 fn is_number(letter: u8, n: u64) -> bool {
     match letter {
         b'f' => n <= 1,
@@ -16,6 +16,8 @@ fn is_number(letter: u8, n: u64) -> bool {
         b'c' => n <= 57345,
         b'r' => n <= 1000000,
         b't' => n <= 65537,
+        b'g' => n <= 469441,
+        b'q' => n <= 1110017,
         _ => true,
     }
 }

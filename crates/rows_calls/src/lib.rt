@@ -132,6 +132,11 @@ replay TR nnL 58
 replay_filled Bt nnL 59
 lent OOB LLL 60
 scheduling_decision nnnnfnfuusWW L 61
+fits_length nnncn nn 62
+write_fits nnncnnWgbnn nnnL 63
+read_log Tcn nnnnLn 64
+refused_lines TR nnL 65
+log_filled Bq nnnnnL 66
 ";
     call_in(table, name, asked, args, bytes)
 }

@@ -1,29 +1,15 @@
 // The calls of decisions and of their log, whose words come from a seed.
-ghost use Prim.Native.Nat.{_≤_};
 use decisions::DecisionRead;
 use log::DecisionLog;
 use recent::Recent;
 use recording::Recorded;
 use rows_seeded::SEEDED;
+use rows_seeded::length_at;
+use rows_seeded::log_at;
 use rows_words::words;
 use rows_words::words::SHORT;
 use rows_words::words::WORDS;
 use rows_words::words::word;
-
-fn log_at(args: &[u64; WORDS]) -> DecisionLog {
-    DecisionLog {
-        first: word(args, 0),
-        count: word(args, 1),
-        sequence: word(args, 2),
-    }
-}
-
-// A length that a question gives.
-fn length_at(args: &[u64; WORDS], at: usize) -> usize
-    ensures { λ r. ⌜ r ≤ 57345 ⌝ }
-{
-    words::least(word(args, at) as usize, SEEDED)
-}
 
 // A decision's words written anew, for `of_words` behind a 1; zeros where they are none.
 fn anew(call: u64, list: &[u64]) -> [u64; SHORT] {

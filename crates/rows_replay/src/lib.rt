@@ -2,6 +2,7 @@
 use numerals::Number;
 use replay_lines::run;
 use replay_lines::run::Replayed;
+use rows_texts as texts;
 use rows_words::words;
 use rows_words::words::BYTES;
 use rows_words::words::SHORT;
@@ -14,12 +15,8 @@ fn number_words(n: Number) -> [u64; 2] {
     }
 }
 
-fn text_of<'a>(args: &[u64; WORDS], bytes: &'a [u8]) -> &'a [u8] {
-    words::cut(bytes, 0, words::word(args, 0) as usize)
-}
-
 pub fn answer(call: u64, args: &[u64; WORDS], bytes: &[u8]) -> [u64; SHORT] {
-    let text = text_of(args, bytes);
+    let text = texts::text_of(args, bytes);
     let n = if call == 56 {
         numerals::decimal(text)
     } else {
@@ -33,15 +30,9 @@ fn put_run(out: &mut [u64; WORDS], r: Replayed, shown: &[u8]) {
     words::put_bytes(out, 2, shown);
 }
 
-fn bytes_of(list: &[u64]) -> [u8; BYTES] {
-    let mut bytes = [0u8; BYTES];
-    words::lay_bytes(&mut bytes, 0, list, BYTES);
-    bytes
-}
-
 // The output goes to what a list holds.
 fn put_replay(text: &[u8], list: &[u64], out: &mut [u64; WORDS]) {
-    let mut bytes = bytes_of(list);
+    let mut bytes = texts::bytes_of(list);
     let n = words::least(list.len(), BYTES);
     let room = &mut bytes[0..n];
     put_run(out, run::replay(text, room), room);
@@ -49,43 +40,16 @@ fn put_replay(text: &[u8], list: &[u64], out: &mut [u64; WORDS]) {
 
 // ---- a text that fills the input
 
-// The text again and again, as far as the bytes go.
-fn repeated(text: &[u8]) -> [u8; BYTES] {
-    let mut bytes = [0u8; BYTES];
-    let mut i = 0;
-    let mut from = 0;
-    while i < BYTES {
-        if text.len() <= from {
-            from = 0;
-        }
-        bytes[i] = words::byte(text, from);
-        from = std::num::wrapping_add_usize(from, 1);
-        i += 1;
-    }
-    bytes
-}
-
-// The last line, from behind the line end before it.
-fn last_line(output: &[u8]) -> &[u8] {
-    let mut start = output.len();
-    while 1 < start {
-        start -= 1;
-        if words::byte(output, start - 1) == b'\n' {
-            return words::cut(output, start, output.len());
-        }
-    }
-    output
-}
-
 fn put_filled(text: &[u8], length: usize, out: &mut [u64; WORDS]) {
-    let bytes = repeated(text);
+    let mut bytes = [0u8; BYTES];
+    texts::repeat(text, &mut bytes);
     let mut room = run::output_room();
     let r = run::replay(words::cut(&bytes, 0, length), &mut room);
-    put_run(out, r, last_line(words::cut(&room, 0, r.length)));
+    put_run(out, r, texts::last_line(words::cut(&room, 0, r.length)));
 }
 
 pub fn put_answer(call: u64, args: &[u64; WORDS], bytes: &[u8], out: &mut [u64; WORDS]) {
-    let text = text_of(args, bytes);
+    let text = texts::text_of(args, bytes);
     let second = words::after(args, 0, 1);
     if call == 58 {
         put_replay(text, words::part(args, second), out);

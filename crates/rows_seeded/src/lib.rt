@@ -1,8 +1,29 @@
 // Buffers too long for a question: what they hold before a call comes from a seed, and after it they are told by a digest and by the words that differ.
+ghost use Prim.Native.Nat.{_≤_};
+use log::DecisionLog;
+use rows_words::words;
 use rows_words::words::SHORT;
+use rows_words::words::WORDS;
+use rows_words::words::word;
 
 // The most words of a log or of what is read of it, one more than there are.
 pub const SEEDED: usize = 57345;
+
+// A question's log.
+pub fn log_at(args: &[u64; WORDS]) -> DecisionLog {
+    DecisionLog {
+        first: word(args, 0),
+        count: word(args, 1),
+        sequence: word(args, 2),
+    }
+}
+
+// A length that a question gives.
+pub fn length_at(args: &[u64; WORDS], at: usize) -> usize
+    ensures { λ r. ⌜ r ≤ 57345 ⌝ }
+{
+    words::least(word(args, at) as usize, SEEDED)
+}
 
 fn odd_after(word: u64, seed: u64) -> u64 {
     std::num::wrapping_add_u64(word, std::num::wrapping_add_u64(seed, seed))

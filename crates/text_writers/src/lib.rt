@@ -1,8 +1,9 @@
-// Text written to a lent buffer from a place on; each writer of more than a byte answers how many there are. Nothing is refused: a byte that would stand past the buffer's end is lost, so that a run over an empty slice counts.
+// Text written to a lent buffer from a place on; each writer of numbers answers how many bytes there are. Nothing is refused: a byte that would stand past the buffer's end is lost, so that a run over an empty slice counts.
 ghost use mathlib.Core.Path.{_≡_};
 ghost use mathlib.Core.List.{[], _∷_, _++_};
 ghost use Prim.Native.Nat.{_+_};
 ghost use lib.ListN.{set, take};
+ghost use lib.Seq.{sets};
 ghost use Rattle.lists.specs.Writes.{Filled};
 ghost use Rattle.numerals.specs.Numbers.{spelt};
 ghost use Rattle.text_writers.specs.Rows.{behind, rowOf};
@@ -22,6 +23,17 @@ pub fn put_byte(out: &mut [u8], at: usize, i: usize, byte: u8)
         return;
     }
     out[at + i] = byte;
+}
+
+// Bytes as they are.
+pub fn put_bytes(out: &mut [u8], at: usize, bytes: &[u8])
+    ensures { λ _. ⌜ now (out .exit) ≡ sets (now (out .entry)) at (now (bytes .entry)) ⌝ }
+{
+    let mut i: usize = 0;
+    while i < bytes.len() {
+        put_byte(out, at, i, bytes[i]);
+        i += 1;
+    }
 }
 
 // A number's decimal digits, at most 20.

@@ -41,6 +41,15 @@ spelt-last n h = rw (enough 18 (n / 10) (tenth 18 n (lt-trans h (lit< tt)))) (go
     go true e = let r : n % 10 ≡ n = omega (arith, ltb-true) in rw r
     go false e = refl
 
+-- a number below 10^(j + 1) has at most j + 1 digits
+pub digits-few : (j k n : ℕ) → n < 10 ^ suc j → length (digitsUpTo k n) ≤ suc j
+unfolding digitsUpTo
+digits-few j zero n h = omega arith
+digits-few zero (suc k) n h = rw (lt-ltb n 10 h) (omega arith)
+digits-few (suc j) (suc k) n h =
+    by-test (λ (l : List ℕ). length l ≤ suc (suc j)) (ltb n 10) _ _ (λ _. omega arith) λ _.
+    omega (arith, length-append (digitsUpTo k (n / 10)) ((48 + n % 10) ∷ []), digits-few j k (n / 10) (tenth j n h))
+
 digits-within : (k n : ℕ) → length (digitsUpTo k n) ≤ suc k
 unfolding digitsUpTo
 digits-within zero n = omega arith

@@ -1,14 +1,13 @@
 -- The output for any text is at most 1,179,648 bytes long: at most 65,536 lines, each of at most 18 bytes.
 use mathlib.Core.Path.{_≡_}
-use Prim.Native.Nat.{ℕ, zero, suc, _+_, _*_, _/_, _%_, _^_, _≤_, _<_}
-use native.Mathlib.Nat.{div-lt-iff-lt-mul, pow-suc}
+use Prim.Native.Nat.{ℕ, suc, _+_, _*_, _≤_, _<_}
 use native.Mathlib.Omega.{arith}
 use mathlib.Core.Bool.{Bool, true, false, cond, not}
 use mathlib.Core.List.{List, [], _∷_, _++_}
 use lib.ListN.{length, length-append}
 use lib.Dec.{ltb, eqb}
 use lib.Ieee.{Float}
-use borrow.Author.Tests.{ltb-false, lt-ltb, le-ltb}
+use borrow.Author.Tests.{ltb-false, le-ltb}
 use Rattle.refusals.specs.Refusals.{none}
 use Rattle.state.specs.declared.GovernorState.{GovernorState}
 use Rattle.kinds.specs.declared.mode.GovernorMode.{GovernorMode}
@@ -28,24 +27,15 @@ use Rattle.replay_fields.specs.declared.Line.{Line}
 use Rattle.replay_fields.specs.declared.Line.the-variants.{Observation, None as NoLine}
 use Rattle.lists.specs.Tests.{by-test}
 use Rattle.replay_text.specs.Lines.{LF, partsFrom, withoutCR, lastLine, linesOf, fieldsOf}
-use Rattle.numerals.specs.Numbers.{digitsUpTo}
+use Rattle.numerals.specs.Numbers.Digits.{digits-few}
 use Rattle.replay_fields.specs.Fields.{lineOf}
 use Rattle.replay_lines.specs.Replay.{five, printed, observeLine, replayFrom, replayOf, replayedOf}
 
 -- ---- one line
 
--- a number below 10^(j + 1) has at most j + 1 digits
-few : (j k n : ℕ) → n < 10 ^ suc j → length (digitsUpTo k n) ≤ suc j
-unfolding digitsUpTo
-few j zero n h = omega arith
-few zero (suc k) n h = rw (lt-ltb n 10 h) (omega arith)
-few (suc j) (suc k) n h =
-    by-test (λ (l : List ℕ). length l ≤ suc (suc j)) (ltb n 10) _ _ (λ _. omega arith) λ _.
-    omega (arith, length-append (digitsUpTo k (n / 10)) ((48 + n % 10) ∷ []), few j k (n / 10) (div-lt-iff-lt-mul (omega arith) .1 (rw (pow-suc 10 (suc j)) at h)))
-
 five-few : (a b c d e : ℕ) → a < 100000 → b < 10 → c < 10 → d < 10 → e < 100000 → length (five a b c d e) ≤ 18
 five-few a b c d e ha hb hc hd he =
-    simp length-append (omega (arith, few 4 19 a ha, few 0 19 b hb, few 0 19 c hc, few 0 19 d hd, few 4 19 e he))
+    simp length-append (omega (arith, digits-few 4 19 a ha, digits-few 0 19 b hb, digits-few 0 19 c hc, digits-few 0 19 d hd, digits-few 4 19 e he))
 
 mode-few : (m : GovernorMode) → modeNumber m < 10
 mode-few Balanced = omega arith

@@ -18,7 +18,7 @@ commaAfter line zero i = findOf line comma i
 commaAfter line (suc n) i = commaAfter line n (findOf line comma i + 1)
 
 module _ (line : List ℕ) where
-  field-more : (i e : ℕ) → e ≡ findOf line comma i → e < length line → fieldsOf (drop i line) ≡ take (e - i) (drop i line) ∷ fieldsOf (drop (e + 1) line)
+  pub field-more : (i e : ℕ) → e ≡ findOf line comma i → e < length line → fieldsOf (drop i line) ≡ take (e - i) (drop i line) ∷ fieldsOf (drop (e + 1) line)
   field-more i e is h = rw is (parts-more comma _ _ line i (rw is at h))
 
   pub field-last : (i : ℕ) → length line ≤ findOf line comma i → fieldsOf (drop i line) ≡ drop i line ∷ []

@@ -1,10 +1,10 @@
--- `rows_replay::last_line` is safe and ends: the place falls to the front. Assumes nothing.
+-- `rows_texts::last_line` is safe and ends: the place falls to the front. Assumes nothing.
 use lib.ListN.{length}
 use Prim.Native.Nat.{_≤_}
 use borrow.Author.Needs.{needs}
 use native.Mathlib.Omega.{arith}
-use Rattle.rows_replay.proofs.last_line.Statement.{statement}
-use Rattle.rows_replay.proofs.last_line.Tie as tie
+use Rattle.rows_texts.proofs.last_line.Statement.{statement}
+use Rattle.rows_texts.proofs.last_line.Tie as tie
 
 abbrev Inv-loop : tie.InvT-loop
 Inv-loop output start₀ start = start ≤ length output

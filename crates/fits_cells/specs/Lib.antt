@@ -1,0 +1,2 @@
+-- A word in its column.
+pub mod Cells

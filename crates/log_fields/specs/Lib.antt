@@ -1,0 +1,2 @@
+-- One line of the log's text.
+pub mod Line

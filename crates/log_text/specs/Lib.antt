@@ -1,0 +1,2 @@
+-- The log's text, and the log that it is.
+pub mod Text
