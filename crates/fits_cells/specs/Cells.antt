@@ -9,7 +9,7 @@ unfoldable pub storedOf : Form → ℕ → ℕ
 storedOf D w = w
 storedOf K w = (w + 2 ^ 63) % 2 ^ 64
 
--- the last k bytes, the highest first (3.4, 5.2)
+-- the last k bytes, the highest first (5.2)
 unfoldable pub bigEndian : ℕ → ℕ → List ℕ
 bigEndian zero w = []
 bigEndian (suc k) w = (w / 256 ^ k % 256) ∷ bigEndian k w

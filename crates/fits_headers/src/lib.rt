@@ -17,6 +17,23 @@ const FRONT: usize = 30;
 
 const SPACE: u8 = 32;
 
+// The places for a card in three blocks, and where the table's header begins and its cards end.
+const PLACES: usize = 108;
+
+const TABLE: usize = 36;
+
+const TABLE_END: usize = TABLE + 45;
+
+// The cards of the primary header, END among them, and the places behind them that have none.
+const PRIMARY: usize = 5;
+
+const EMPTY: usize = TABLE - PRIMARY;
+
+// NAXIS2's front, and its place: the fifth card of the table's header.
+const NAXIS2: usize = PRIMARY + 4;
+
+const NAXIS2_PLACE: usize = TABLE + 4;
+
 // The front of each card, as it stands in the file. NAXIS2's number is put in.
 const FRONTS: [u8; 1500] = *b"\
 SIMPLE  =                    T\
@@ -89,28 +106,28 @@ fn count_card(all: &[u8; 1500], rows: u64) -> [u8; CARD]
     requires { ⌜ now all ≡ fronts ⌝ }
     ensures { λ r. ⌜ r ≡ countCard rows ⌝ }
 {
-    let mut card = front_card(all, 9);
+    let mut card = front_card(all, NAXIS2);
     let digits = put_number(&mut [0u8; 0], 0, rows);
     put_number(&mut card, FRONT - digits, rows);
     card
 }
 
-// What stands in each of the 108 places for a card.
+// What stands in each place for a card.
 fn place_card(all: &[u8; 1500], place: usize, rows: u64) -> [u8; CARD]
     requires { ⌜ (now all ≡ fronts) × (place < 108) ⌝ }
     ensures { λ r. ⌜ r ≡ placeCard rows place ⌝ }
 {
-    if place == 40 {
+    if place == NAXIS2_PLACE {
         return count_card(all, rows);
     }
-    if place < 5 {
+    if place < PRIMARY {
         return front_card(all, place);
     }
-    if place < 36 {
+    if place < TABLE {
         return [SPACE; CARD];
     }
-    if place < 81 {
-        return front_card(all, place - 31);
+    if place < TABLE_END {
+        return front_card(all, place - EMPTY);
     }
     [SPACE; CARD]
 }
@@ -121,7 +138,7 @@ pub fn put_headers(out: &mut [u8], rows: u64)
 {
     let all = FRONTS;
     let mut place: usize = 0;
-    while place < 108 {
+    while place < PLACES {
         let card = place_card(&all, place, rows);
         put_bytes(out, CARD * place, &card);
         place += 1;

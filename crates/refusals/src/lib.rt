@@ -32,7 +32,7 @@ pub const NO_ROOM: u64 = 9;
 // The log buffer isn't 57,344 words, its first place exceeds 4,095, or its count exceeds 4,096.
 pub const BAD_LOG: u64 = 10;
 
-// What a call answers that writes bytes to the front of a lent buffer: its refusal, and how many it wrote.
+// What a call answers whose result is bytes at the front of a lent buffer: its refusal, and how many they are, 0 beside a refusal.
 pub struct Written {
     pub refusal: u64,
     pub length: usize,
