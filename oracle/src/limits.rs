@@ -1,6 +1,8 @@
 //! Every refusal that a call can give, each adjacent pair of its order at once, and every limit just in and just out.
 
 use crate::ask;
+use crate::fits;
+use crate::make_log::{ENDS, SHORTEST, as_words, line_of};
 use crate::question::{Arg, Question};
 use crate::state::{LARGE, State};
 
@@ -370,4 +372,111 @@ pub fn all() -> Vec<Question> {
     out.push(ask!("of_words", vec![0; 13]));
     out.push(ask!("of_words", vec![0; 15]));
     out
+}
+
+// ---- the log as a table and as text, which are not among the frozen rows of `all`
+
+/// One row of a sound log in an exact room.
+fn table() -> Question {
+    ask!("write_fits", 0, 1, 5, 57344, 777, 0, decision(), 11520, 46, 8640, 8760)
+}
+
+/// A table of so many rows from a place on, in a room of so many bytes.
+fn rows_from(first: u64, count: u64, room: u64) -> Question {
+    ask!("write_fits", first, count, 5, 57344, 777, 0, vec![], room, 46, 8640 + 112 * count.saturating_sub(2), room)
+}
+
+fn tables() -> Vec<Question> {
+    let mut out = vec![];
+    for first in [0, 4094, 4095, 4096, 1 << 32, MAX] {
+        for count in [0, 1, 25, 26, 180, 181, 4095, 4096, 4097, 1 << 32, MAX] {
+            for length in [0, 57343, 57344, 57345] {
+                out.push(ask!("fits_length", first, count, MAX, length, 777));
+            }
+        }
+    }
+    let ways: Vec<(u64, fn(&mut Question))> = vec![
+        (10, |q| set(q, 0, 4096)),
+        (10, |q| set(q, 0, MAX)),
+        (10, |q| set(q, 1, 4097)),
+        (10, |q| set(q, 1, MAX)),
+        (10, |q| set(q, 3, 57343)),
+        (10, |q| set(q, 3, 57345)),
+        (9, |q| set(q, 7, 11519)),
+        (9, |q| set(q, 7, 0)),
+    ];
+    out.extend(Faults { good: table(), ways }.questions());
+    // the rows at the end of a block, and rooms just in and just out
+    for count in [0, 1, 25, 26, 51, 52, 179, 180, 181, 4096] {
+        let exact = fits::size(count);
+        out.extend([exact - 1, exact, exact + 1].map(|room| rows_from(0, count, room)));
+    }
+    for (first, count) in [(4095, 0), (4095, 1), (4095, 2), (4086, 10), (4087, 10), (1, 4096), (4095, 4096)] {
+        out.push(rows_from(first, count, fits::size(count)));
+    }
+    // both headers byte for byte, and each word in every column
+    out.push(ask!("write_fits", 0, 4096, 5, 57344, 777, 0, vec![], 469440, 46, 0, 8640));
+    out.extend(ENDS.map(|word| ask!("write_fits", 0, 1, 5, 57344, 777, 0, vec![word; 14], 11520, 46, 8640, 8760)));
+    out
+}
+
+/// A text as it is read and as it is reported, the report's room just in and just out.
+fn text(bytes: &[u8]) -> Vec<Question> {
+    let (words, exact) = (as_words(bytes), fits::report(bytes).len());
+    let mut out = vec![ask!("read_log", words.clone(), 57344, 777)];
+    out.extend([exact.saturating_sub(1), exact, exact + 1].map(|n| ask!("refused_lines", words.clone(), vec![46; n])));
+    out
+}
+
+fn texts() -> Vec<Question> {
+    let good = line_of(&decision());
+    let mut out = vec![];
+    // the ends of lines
+    for end in ["", "\n", "\r\n", "\r", "\r\r\n", "\n\n", "\n\r", "\n\r\n", "\r\n\n", "\n\nx", ",\n", ",0\n"] {
+        out.extend(text(&[&good, end.as_bytes()].concat()));
+        out.extend(text(end.as_bytes()));
+    }
+    // each word in every column, and one more than the largest
+    for word in ENDS {
+        out.extend(text(&line_of(&[word; 14])));
+    }
+    for k in 0..14 {
+        for field in ["", "18446744073709551616", "00", "000000000000000", "00000000000000000", "abcdefABCDEF0189", "000000000000000g"] {
+            let mut fields: Vec<&[u8]> = good.split(|b| *b == b',').collect();
+            fields[k] = field.as_bytes();
+            out.extend(text(&fields.join(&b',')));
+        }
+    }
+    // 4,096 lines, and one more
+    for lines in [4095, 4096, 4097] {
+        for last in ["", "x", "\r"] {
+            out.extend(text(&["\n".repeat(lines), last.to_string()].concat().into_bytes()));
+        }
+    }
+    // 10 comes before 4 and 5
+    for length in [0, 1, 27, 28, 57343, 57345] {
+        for bytes in [good.clone(), vec![], b"x".to_vec(), b"\n".repeat(4097)] {
+            out.push(ask!("read_log", as_words(&bytes), length, 777));
+        }
+    }
+    out
+}
+
+/// Texts that fill the input: about 4,096 lines and about the most bytes, of good lines and of others.
+fn filled() -> Vec<Question> {
+    let longest = [line_of(&[MAX; 14]), b"\r\n".to_vec()].concat();
+    let most = fits::MOST as u64;
+    let mut out = vec![ask!("log_filled", vec![], 0)];
+    for text in [SHORTEST, &longest] {
+        let whole = text.len() as u64 * 4096;
+        out.extend([whole - 2, whole - 1, whole, whole + 1].map(|length| ask!("log_filled", as_words(text), length)));
+    }
+    for text in [&b"0"[..], b"\n"] {
+        out.extend([most, most + 1].map(|length| ask!("log_filled", as_words(text), length)));
+    }
+    out
+}
+
+pub fn log_files() -> Vec<Question> {
+    [tables(), texts(), filled()].concat()
 }

@@ -12,11 +12,13 @@ mod db {
     }
 }
 mod decisions;
+mod fits;
 #[allow(dead_code)]
 mod governor;
 mod limits;
 mod logged;
 mod make;
+mod make_log;
 mod numbers;
 mod original;
 mod port;
@@ -30,6 +32,7 @@ mod tables;
 mod words;
 
 use make::CALLS;
+use make_log::LOG_CALLS;
 use numbers::Dice;
 use original::Seen;
 use port::Port;
@@ -109,7 +112,7 @@ fn fail(what: &str, q: &Question) -> ! {
 /// A pass: limits and small cases in full, runs of calls, then so many questions to each call.
 fn pass(c: &mut Comparison, seed: u64, each: u64, runs: u64, tables: u32) {
     let mut dice = Dice(seed);
-    for q in limits::all().into_iter().chain(runs::all_turns()) {
+    for q in limits::all().into_iter().chain(limits::log_files()).chain(runs::all_turns()) {
         c.compare(q);
     }
     for q in runs::all_tables(tables) {
@@ -143,6 +146,13 @@ fn pass(c: &mut Comparison, seed: u64, each: u64, runs: u64, tables: u32) {
             c.compare(q);
         }
     }
+    for i in 0..each {
+        // a text of up to a million bytes takes its time: one for ten of the others
+        for call in LOG_CALLS.into_iter().filter(|call| i % 10 == 0 || *call != "log_filled") {
+            let q = dice.log_question(call);
+            c.compare(q);
+        }
+    }
     c.flush();
 }
 
@@ -153,7 +163,7 @@ fn step(c: &mut Comparison, run: &mut runs::Run, q: Question) {
     }
 }
 
-/// Adds to the frozen rows: the limits, and 200 questions to each call, with the rules' answers, which the original was held against.
+/// Adds to the frozen rows: the limits, and 200 questions to each call, with the rules' answers, which the original was held against. Of the log as a table and as text it asks nothing: those rows are of scripts/parts/fits.py.
 fn freeze(folder: &str, seed: u64, skip: &[String]) {
     let mut dice = Dice(seed);
     let mut all = limits::all();

@@ -7,7 +7,7 @@ use crate::question::{Arg, Question};
 use crate::state::State;
 use crate::tables;
 
-/// Every call that stands by itself, by the name that a question has. `of_u64` stands three times, so that the frozen rows stay as the dice gave them.
+/// Every call that stands by itself, by the name that a question has; those of the log as a table and as text are in make_log.rs. `of_u64` stands three times, so that the frozen rows stay as the dice gave them.
 pub const CALLS: [&str; 61] = [
     "of_bits", "minimum", "maximum", "absolute", "clamp", "truncate", "of_u64", "of_u64", "of_u64", "sqrt", "ln_1p",
     "compare", "lesser", "greater", "part", "table_count", "table_at", "entry_count", "entry_at", "first_key", "last_key",
@@ -172,7 +172,7 @@ impl Dice {
     }
 
     /// Room for an answer of so many words: exact, one short, more, or any.
-    fn room(&mut self, words: usize) -> Vec<u64> {
+    pub fn room(&mut self, words: usize) -> Vec<u64> {
         let n = match self.below(6) {
             0 => (words as u64).saturating_sub(1),
             1 => words as u64 + self.below(9),
@@ -304,7 +304,7 @@ impl Dice {
     }
 
     /// The bytes of a number as a person might write it.
-    fn digits(&mut self, hex: bool) -> Vec<u64> {
+    pub fn digits(&mut self, hex: bool) -> Vec<u64> {
         let n = self.number();
         let mut text = if hex { format!("{n:016x}") } else { n.to_string() };
         match self.below(10) {

@@ -23,19 +23,24 @@ fn observation(line: &[u8]) -> Option<(u64, Sample)> {
     Some((decimal(clock)?, sample))
 }
 
-/// "at most 65,536 bytes (given more, it prints nothing) .. lines .., ended by LF or CRLF, the last end optional"
-pub fn run(text: &[u8]) -> Vec<u8> {
-    if text.len() > 65_536 {
-        return vec![];
-    }
+/// "lines .., ended by LF or CRLF, the last end optional"
+pub fn lines(text: &[u8]) -> Vec<&[u8]> {
     let mut lines: Vec<&[u8]> = text.split(|b| *b == b'\n').collect();
     let last = lines.pop().unwrap_or_default();
     let mut lines: Vec<&[u8]> = lines.into_iter().map(|l| l.strip_suffix(b"\r").unwrap_or(l)).collect();
     if !last.is_empty() {
         lines.push(last);
     }
+    lines
+}
+
+/// "at most 65,536 bytes (given more, it prints nothing)"
+pub fn run(text: &[u8]) -> Vec<u8> {
+    if text.len() > 65_536 {
+        return vec![];
+    }
     let (mut state, mut out) = (State::fresh(0), String::new());
-    for (i, line) in lines.into_iter().enumerate() {
+    for (i, line) in lines(text).into_iter().enumerate() {
         // "Any other line counts as refusal 5; a refused line prints the old state."
         let refusal = match observation(line) {
             Some((clock, sample)) => state.observe(clock, &sample),

@@ -1,6 +1,7 @@
 //! The answer that 01's rules give to a question: one line, as the port prints it.
 
 use crate::decisions::{Log, digest, filled, is_decision, traced, written};
+use crate::fits;
 use crate::numbers::{bits, float, logarithm, maximum, minimum, root};
 use crate::question::Question;
 use crate::replay;
@@ -21,7 +22,7 @@ fn sample(q: &Question, at: usize) -> Sample {
 }
 
 pub fn answer(q: &Question) -> String {
-    arith(q).or_else(|| table(q)).or_else(|| governor(q)).or_else(|| selection(q)).or_else(|| decisions(q)).or_else(|| text(q)).unwrap_or_else(|| panic!("no rule for {q}"))
+    arith(q).or_else(|| table(q)).or_else(|| governor(q)).or_else(|| selection(q)).or_else(|| decisions(q)).or_else(|| log_files(q)).or_else(|| text(q)).unwrap_or_else(|| panic!("no rule for {q}"))
 }
 
 fn arith(q: &Question) -> Option<String> {
@@ -243,6 +244,49 @@ fn decisions(q: &Question) -> Option<String> {
             let (refusal, count) = log().recent(&filled(n(3), n(4)), &mut out);
             let changed = (0..out.len()).filter(|i| out[*i] != before[*i]).count();
             tell!(refusal, count, digest(&out), changed as u64)
+        }
+        _ => return None,
+    })
+}
+
+/// A text again and again, as far as so many bytes go; of an empty one zeros.
+fn repeated(text: &[u8], length: u64) -> Vec<u8> {
+    text.iter().cycle().copied().chain(std::iter::repeat(0)).take(length as usize).collect()
+}
+
+/// The log as a table and as text.
+fn log_files(q: &Question) -> Option<String> {
+    let n = |i| q.number(i);
+    let log = || Log { first: n(0), count: n(1), sequence: n(2) };
+    Some(match q.name {
+        "fits_length" => {
+            let (refusal, length) = fits::length(&log(), n(3) as usize);
+            tell!(refusal, length)
+        }
+        "write_fits" => {
+            // a list is laid over the seed's words from a place on, as far as they go
+            let (mut kept, mut out) = (filled(n(3), n(4)), vec![n(8) as u8; n(7) as usize]);
+            kept.iter_mut().skip(n(5) as usize).zip(q.list(6)).for_each(|(to, w)| *to = *w);
+            let (refusal, length) = fits::write(&log(), &kept, &mut out);
+            let shown = tables::part(&out, n(9), n(10).saturating_sub(n(9)));
+            tell!(refusal, length, digest(&words(&out)), words(shown))
+        }
+        "read_log" => {
+            let mut kept = filled(n(1), n(2));
+            let (refusal, log) = fits::read(&bytes(q.list(0)), &mut kept);
+            tell!(refusal, log.first, log.count, log.sequence, &kept[..kept.len().min(28)], digest(&kept))
+        }
+        "refused_lines" => {
+            let mut out = bytes(q.list(1));
+            let (refusal, length) = fits::refused_lines(&bytes(q.list(0)), &mut out);
+            tell!(refusal, length, words(&out))
+        }
+        "log_filled" => {
+            let (text, mut kept) = (repeated(&bytes(q.list(0)), n(1)), filled(57_344, 1));
+            let (refusal, log) = fits::read(&text, &mut kept);
+            let report = fits::report(&text);
+            let last = report.split_inclusive(|b| *b == b'\n').last().unwrap_or_default();
+            tell!(refusal, log.count, log.sequence, digest(&kept), report.len() as u64, words(last))
         }
         _ => return None,
     })

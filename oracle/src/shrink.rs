@@ -26,6 +26,9 @@ pub fn smallest(port: &mut Port, q: &Question) -> Question {
             break;
         }
     }
+    if q.name == "write_fits" {
+        s.tell_bytes();
+    }
     let _ = std::panic::take_hook();
     s.best
 }
@@ -37,6 +40,7 @@ fn groups(q: &Question) -> Vec<Vec<(usize, usize)>> {
         "scheduling_decision" => vec![vec![(10, 6), (11, 9)]],
         "generate_candidates" => vec![vec![(0, 7)], vec![(3, 2)], vec![(1, 1)], vec![(4, 1)], vec![(5, 1)]],
         "estimate_candidates" => vec![vec![(3, 6)], vec![(0, 7)], vec![(2, 2)], vec![(4, 1)], vec![(5, 1)]],
+        "write_fits" => vec![vec![(6, 14)], vec![(6, 1)]],
         "sort_level" | "level_places" | "overlaps_at" | "broken_keys" | "table_at" => vec![vec![(0, 7)]],
         _ => (0..q.args.len()).filter(|i| matches!(q.args[*i], Arg::List(_))).map(|i| vec![(i, 1)]).collect(),
     }
@@ -94,6 +98,27 @@ impl Shrink<'_> {
                 }
             }
         }
+    }
+
+    /// Of a table's bytes the first 80 that differ are told, looked for block by block and then card by card.
+    fn tell_bytes(&mut self) {
+        let mut within = 0..self.best.number(7);
+        for width in [2880, 80] {
+            let Some(from) = within.step_by(width as usize).find(|from| self.tells(*from, from + width)) else { return };
+            within = from..from + width;
+        }
+    }
+
+    /// Takes the bytes from a place up to another as those that are told, if the two differ there.
+    fn tells(&mut self, from: u64, end: u64) -> bool {
+        let mut q = self.best.clone();
+        (q.args[9], q.args[10]) = (Arg::Number(from), Arg::Number(end));
+        let bytes = |line: &str| line.split('[').nth(1).map(str::to_string);
+        let differs = bytes(&rules::answer(&q)) != bytes(&self.port.ask(&[q.to_string()])[0]);
+        if differs {
+            self.best = q;
+        }
+        differs
     }
 
     fn word(&self, i: usize, j: usize) -> u64 {

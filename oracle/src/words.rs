@@ -49,7 +49,11 @@ fn names(call: &str) -> Vec<&'static str> {
         "record_decision" => vec!["first", "count", "sequence", "log words", "seed", "decision"],
         "recent_decisions" => vec!["first", "count", "sequence", "log words", "seed", "room", "room's seed"],
         "log_run" => vec!["first", "count", "sequence", "seed", "additions"],
-        "replay" => vec!["text", "output"],
+        "replay" | "refused_lines" => vec!["text", "output"],
+        "fits_length" => vec!["first", "count", "sequence", "log words", "seed"],
+        "write_fits" => vec!["first", "count", "sequence", "log words", "seed", "words laid from", "words laid", "room", "room's byte", "told from", "told up to"],
+        "read_log" => vec!["text", "log words", "seed"],
+        "log_filled" => vec!["text", "repeated up to"],
         _ => vec![],
     }
 }
