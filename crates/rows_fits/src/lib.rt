@@ -117,29 +117,37 @@ fn put_refused(text: &[u8], list: &[u64], told: &mut [u64; WORDS]) {
 
 // ---- a text that fills the input
 
-fn put_filled(text: &[u8], told: &mut [u64; WORDS]) {
+// Room for every report.
+fn report_room() -> [u8; 28672] {
+    [0; 28672]
+}
+
+// What reading a text answers, and a digest of the words after it.
+fn read_filled(text: &[u8]) -> [u64; 4] {
     let mut buffer = rows_seeded::seeded(1);
     let words = &mut buffer[0..57344];
-    let mut room = [0u8; 28672];
     let r = log_text::read_log(text, words);
-    let report = log_text::refused_lines(text, &mut room);
     let log = r.log;
-    words::put_all(
-        told,
-        0,
-        &[
-            r.refusal,
-            log.count,
-            log.sequence,
-            rows_seeded::digest(words),
-            report.length as u64,
-        ],
-    );
-    words::put_bytes(
-        told,
-        5,
-        texts::last_line(words::cut(&room, 0, report.length)),
-    );
+    [
+        r.refusal,
+        log.count,
+        log.sequence,
+        rows_seeded::digest(words),
+    ]
+}
+
+// The report's length and its last line, behind four numbers.
+fn put_last(text: &[u8], told: &mut [u64; WORDS]) {
+    let mut room = report_room();
+    let report = log_text::refused_lines(text, &mut room);
+    words::put(told, 4, report.length as u64);
+    let shown = words::cut(&room, 0, report.length);
+    words::put_bytes(told, 5, texts::last_line(shown));
+}
+
+fn put_filled(text: &[u8], told: &mut [u64; WORDS]) {
+    words::put_all(told, 0, &read_filled(text));
+    put_last(text, told);
 }
 
 fn put_repeated(text: &[u8], length: u64, told: &mut [u64; WORDS]) {
