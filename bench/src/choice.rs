@@ -2,6 +2,7 @@
 use crate::clocked;
 use crate::data::Dice;
 use crate::decisions::to_words;
+use crate::module;
 use crate::original;
 use crate::port::*;
 use crate::rows::{Bench, bits, same};
@@ -100,6 +101,7 @@ macro_rules! of_rust {
 }
 of_rust!(original, pairs, pick);
 of_rust!(clocked, clocked_pairs, clocked_pick);
+of_rust!(module, module_pairs, module_pick);
 
 fn compared(v: [f64; 3], f: [u64; 3], offers: &[Offer]) {
     let (candidates, estimates) = words(offers);

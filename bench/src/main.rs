@@ -14,6 +14,9 @@ mod db {
     }
 }
 mod decisions;
+mod dropin;
+mod module;
+mod module_clocked;
 mod numbers;
 mod original;
 mod port;
@@ -27,6 +30,7 @@ fn all(b: &mut rows::Bench) {
     tables::run(b);
     choice::run(b);
     states::run(b);
+    dropin::run(b);
     decisions::run(b);
     replay::run(b);
     numbers::run(b);

@@ -41,7 +41,7 @@ fn source_of(n: u64) -> PressureSource
     }
 }
 
-fn tier_of(n: u64) -> SelectionTier
+pub fn tier_of(n: u64) -> SelectionTier
     ensures { λ r. ⌜ r ≡ tierFrom n ⌝ }
 {
     match n {

@@ -1,0 +1,48 @@
+-- Answers as words, and the number that a call with a lent buffer for them gives. Definitions only.
+pub mod Told
+use Prim.Native.Nat.{ℕ}
+use mathlib.Core.Bool.{cond}
+use mathlib.Core.List.{List, [], _∷_, _++_}
+use lib.ListN.{getD, replicate}
+use lib.Dec.{ltb, eqb}
+use lib.Ieee.{binary64, toBits}
+use Rattle.refusals.specs.Refusals.{none, noRoom}
+use Rattle.kinds.specs.declared.winner.Winner.{Winner}
+use Rattle.kinds.specs.Numbers.{modeNumber, tierNumber, focusNumbers, winnerNumbers}
+use Rattle.state.specs.declared.GovernorState.{GovernorState}
+use Rattle.snapshot.specs.declared.SnapshotAnswer.{SnapshotAnswer}
+use Rattle.snapshot.specs.declared.SnapshotAnswer.the-variants.{Stats, Refused}
+use Rattle.snapshot.specs.Snapshot.{figures}
+use Rattle.choice.specs.declared.Picked.{Picked}
+use Rattle.state_words.specs.StateWords.{focusFlag, focusLevel}
+
+-- the call's own refusal, then 9 where so many words have no room
+unfoldable pub answerFault : ℕ → ℕ → ℕ → ℕ
+answerFault refusal words room = cond (eqb refusal none) (cond (ltb room words) noRoom none) refusal
+
+-- mode, pressure, vector, focus
+unfoldable pub readingWords : GovernorState → List ℕ
+readingWords s =
+    modeNumber (s .mode) ∷ toBits binary64 (s .signals .«last_pressure»)
+    ∷ toBits binary64 (s .signals .«pressure_vector» .l0) ∷ toBits binary64 (s .signals .«pressure_vector» .«deep_debt») ∷ toBits binary64 (s .signals .«pressure_vector» .read)
+    ∷ focusFlag (s .focus .«current_focus») ∷ focusLevel (s .focus .«current_focus») ∷ s .focus .streak
+    ∷ []
+
+-- the figures of a snapshot; beside a refusal nobody gets the zeros
+unfoldable pub figuresOr : SnapshotAnswer → List ℕ
+figuresOr (Stats t) = figures t
+figuresOr (Refused n) = replicate {A = ℕ} 14 0
+
+abbrev pub winnerFlag : Winner → ℕ
+winnerFlag w = getD (winnerNumbers w) 0 0
+
+abbrev pub winnerPlace : Winner → ℕ
+winnerPlace w = getD (winnerNumbers w) 1 0
+
+-- winner, focus, tier
+unfoldable pub pickedWords : Picked → List ℕ
+pickedWords p =
+    winnerFlag (p .winner) ∷ winnerPlace (p .winner)
+    ∷ focusFlag (p .focus .«current_focus») ∷ focusLevel (p .focus .«current_focus») ∷ p .focus .streak
+    ∷ tierNumber (p .tier)
+    ∷ []

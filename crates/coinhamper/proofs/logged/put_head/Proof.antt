@@ -1,0 +1,18 @@
+-- `coinhamper::logged::put_head` meets its contract.
+use Rattle.coinhamper.specs.Logged.Told.{three-set}
+use borrow.Author.Needs.{needs}
+use Rattle.coinhamper.proofs.logged.put_head.Statement.{statement}
+use Rattle.coinhamper.proofs.logged.put_head.Tie as tie
+
+returns : tie.Need-returns
+returns c = three-set (c .args .head .now) _ _ _ (c .pre)
+
+pub put-head-spec : {M : Type 1} → statement M
+put-head-spec =
+    tie.close
+    (tie.spec
+    (λ c. search needs)
+    (λ c. search needs)
+    (λ c. search needs)
+    (λ c. search needs)
+    returns)

@@ -1,0 +1,4 @@
+-- The calls for C and Rust.
+pub mod Governed
+pub mod Merges
+pub mod Logged

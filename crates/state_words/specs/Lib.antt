@@ -1,0 +1,2 @@
+-- A governor's state in words.
+pub mod StateWords
