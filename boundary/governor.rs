@@ -274,7 +274,8 @@ pub enum Fallback {
     /// is, and a backlog above it counts as 2^53. The original rounds them to 53 bits.
     CountsHalved,
     /// `observe_engine`: the reads grew by more than 2^53 since the last call, or their probes add up to more than 2^64 - 1, so the probes per get
-    /// are held, as in a window without gets. The rest of the observation counts.
+    /// are held, as in a window without gets, and the next window is counted from 0. The rest of the observation counts. Counters that stay above
+    /// 2^53 from there are held each time.
     ReadsHeld,
     /// Nothing is recorded and nothing changes: an observation, a move or an outcome for which a counter is full, or a batch that would take the
     /// sum of the batch lengths past 2^53, from where every later snapshot would be refused. With lengths that generation gives either takes over
@@ -693,6 +694,7 @@ pub(crate) struct GovernorState {
     /// What `coinhamper_read` answers, asked for after each change: mode, pressure, the vector's three, focus flag, level and streak.
     reading: [u64; 8],
     log_head: [u64; 3],
+    /// None until there is a decision: 448 KB.
     log_words: Box<[u64]>,
     began: Instant,
     /// Of the batches recorded so far: `Fallback::NotRecorded`.
@@ -714,7 +716,7 @@ impl GovernorState {
             state: vec![0; library::coinhamper_state_words()].into(),
             reading: [0; 8],
             log_head: [0; 3],
-            log_words: vec![0; LOG_WORDS].into(),
+            log_words: Box::default(),
             began: Instant::now(),
             batch_size_sum: 0,
             fallbacks: Fallbacks::new(),
@@ -766,12 +768,18 @@ impl GovernorState {
     }
 
     pub(crate) fn record_decision(&mut self, decision: SchedulingDecision) {
+        if self.log_words.is_empty() {
+            self.log_words = vec![0; LOG_WORDS].into();
+        }
         let result = library::record_decision(&mut self.log_head, &mut self.log_words, &decision.words());
         self.recorded(result);
     }
 
     pub(crate) fn recent_decisions(&self) -> Vec<SchedulingDecision> {
         let [_, count, _] = self.log_head;
+        if count == 0 {
+            return Vec::new();
+        }
         let mut out = vec![0; DECISION_WORDS * count as usize];
         self.recorded(library::recent_decisions(&self.log_head, &self.log_words, &mut out));
         out.chunks_exact(DECISION_WORDS).map(SchedulingDecision::of).collect()
@@ -987,7 +995,7 @@ impl<'t> Plan<'t> {
             keys.extend_from_slice(&t.first_key);
             keys.extend_from_slice(&t.last_key);
             let size = self.ranks.as_ref().map_or(t.size, |all| all.partition_point(|&s| s < t.size) as u64);
-            words.extend([t.number, t.level as u64, size, first, t.first_key.len() as u64, last, t.last_key.len() as u64]);
+            words.extend_from_slice(&[t.number, t.level as u64, size, first, t.first_key.len() as u64, last, t.last_key.len() as u64]);
         }
         // The most that there can be: all of levels 0 and 1; of each entry batches of 1 to 8 with all that is below, and a move of 8.
         let on = |level: u64| words.chunks_exact(7).filter(|w| w[1] == level).count();
@@ -1028,7 +1036,7 @@ impl<'t> Plan<'t> {
 
     fn level_zero(&self, out: &mut Vec<Candidate>) -> Result<(), Refusal> {
         let all: Vec<&TableInfo> = self.tables.iter().filter(|t| t.level == 0).collect();
-        if all.is_empty() || all.len() < self.l0_compaction_trigger {
+        if all.len() < self.l0_compaction_trigger {
             return Ok(());
         }
         let below = overlapping(self.tables, 1, &all);
@@ -1176,18 +1184,17 @@ pub(crate) fn try_estimate_candidate(
     };
     if tables.len() <= MOST_TABLES && over_budget_levels.len() <= MOST_ENTRIES {
         let mut all = Vec::with_capacity(7 * tables.len());
-        tables.iter().for_each(|t| all.extend(words(t)));
+        tables.iter().for_each(|t| all.extend_from_slice(&words(t)));
         return estimate(&all, over_budget_levels);
     }
 
-    // Of all tables the first under each number, and of the level's others the bytes.
+    // The tables that the candidate names, and of its level's others the bytes.
     let level = candidate.kind.level();
     let named: HashSet<u64> = numbers.iter().copied().collect();
-    let mut unmet = named.clone();
     let (mut handed, mut rest) = (Vec::new(), 0u128);
     for t in tables {
-        if unmet.remove(&t.number) {
-            handed.extend(words(t));
+        if named.contains(&t.number) {
+            handed.extend_from_slice(&words(t));
         } else if t.level == level {
             rest += t.size as u128;
         }
@@ -1204,7 +1211,7 @@ pub(crate) fn try_estimate_candidate(
     let unnamed = (0..).find(|n| !named.contains(n)).unwrap_or_default();
     while surplus > 0 {
         let size = surplus.min(MOST_SIZE as u128);
-        handed.extend([unnamed, level as u64, size as u64, 0, 0, 0, 0]);
+        handed.extend_from_slice(&[unnamed, level as u64, size as u64, 0, 0, 0, 0]);
         surplus -= size;
     }
     estimate(&handed, &[(level, budget - covered as u64)])
@@ -1269,8 +1276,8 @@ type Picked<'o> = (Option<&'o Offer>, FocusState, SelectionTier);
 pub(crate) fn try_pick_best_cause_aware(vector: PressureVector, focus: FocusState, candidates: &[Offer]) -> Result<Picked<'_>, Refusal> {
     let (mut words, mut estimates) = (Vec::with_capacity(6 * candidates.len()), Vec::with_capacity(9 * candidates.len()));
     for (candidate, estimate) in candidates {
-        words.extend(candidate.words());
-        estimates.extend(estimate.words());
+        words.extend_from_slice(&candidate.words());
+        estimates.extend_from_slice(&estimate.words());
     }
     let picked = library::pick_best_cause_aware(vector, focus, &words, &estimates)?;
     let [flag, place, .., tier] = picked;
@@ -1305,9 +1312,8 @@ fn chosen_here(vector: PressureVector, focus: FocusState, candidates: &[Offer]) 
         return (Some(longest_as_good(best, candidates)), focus, SelectionTier::FocusContinued);
     }
     let Some(best) = best_of(None) else { return (None, FocusState::default(), SelectionTier::None) };
-    let level = best.0.kind.level();
-    let best = best_of(Some(level)).unwrap_or(best);
-    (Some(longest_as_good(best, candidates)), FocusState { current_focus: Some(level), streak: 1 }, SelectionTier::FocusReselected)
+    let focus = FocusState { current_focus: Some(best.0.kind.level()), streak: 1 };
+    (Some(longest_as_good(best, candidates)), focus, SelectionTier::FocusReselected)
 }
 
 /// A batch that relieves all of its level's debt gives way to the longest such batch of the level.

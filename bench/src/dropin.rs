@@ -82,7 +82,7 @@ fn observing(b: &mut Bench) {
     same("module observe, the modes of a run", &ours, &theirs);
     b.row("module observe", 0, N, &mut || _ = observed!(module_clocked, samples, ours), &mut || _ = observed!(clocked, samples, theirs));
     let (ours_now, theirs_now) = (&mut ours.clone(), &mut theirs.clone());
-    b.row("module observe, both with Instant::now", 0, N, &mut || _ = observed!(module, samples, ours_now), &mut || {
+    b.row("module observe, Instant::now", 0, N, &mut || _ = observed!(module, samples, ours_now), &mut || {
         _ = observed!(original, samples, theirs_now)
     });
     let (told, want) = (observed_engine!(module_clocked, samples, reads, ours), observed_engine!(clocked, samples, reads, theirs));
@@ -91,7 +91,7 @@ fn observing(b: &mut Bench) {
     b.row("module observe_engine", 0, N, &mut || _ = observed_engine!(module_clocked, samples, reads, ours), &mut || {
         _ = observed_engine!(clocked, samples, reads, theirs)
     });
-    b.row("module observe_engine, with Instant::now", 0, N, &mut || _ = observed_engine!(module, samples, reads, ours), &mut || {
+    b.row("module observe_engine, Instant::now", 0, N, &mut || _ = observed_engine!(module, samples, reads, ours), &mut || {
         _ = observed_engine!(original, samples, reads, theirs)
     });
 }
@@ -128,7 +128,11 @@ macro_rules! plan {
 
             pub fn infos(tables: &[Table]) -> Vec<TableInfo> {
                 let info = |t: &Table| (t.number, t.level as u32, t.size, t.first.clone(), t.last.clone());
-                tables.iter().map(info).map(|(number, level, size, first_key, last_key)| TableInfo { number, level, size, first_key, last_key }).collect()
+                tables
+                    .iter()
+                    .map(info)
+                    .map(|(number, level, size, first_key, last_key)| TableInfo { number, level, size, first_key, last_key })
+                    .collect()
             }
 
             pub fn candidates(tables: &[TableInfo], over: &[(u32, u64)]) -> Vec<Candidate> {
@@ -166,20 +170,29 @@ mod of {
 }
 
 fn planning(b: &mut Bench) {
-    for n in [16u64, 64, 256, 1024] {
+    let sizes = [16u64, 64, 256, 1024];
+    let cases = sizes.map(|n| {
         let tables = data::four_levels(n, n);
         let bytes = |level: u64| tables.iter().filter(|t| t.level == level).map(|t| t.size).sum::<u64>();
-        let over: &Vec<(u32, u64)> = &[1, 2, 3].iter().map(|&l| (l as u32, bytes(l) * 2 / 3)).collect();
-        let (ours, theirs) = (&of::module::infos(&tables), &of::original::infos(&tables));
+        let over: Vec<(u32, u64)> = [1, 2, 3].iter().map(|&l| (l as u32, bytes(l) * 2 / 3)).collect();
+        (n, of::module::infos(&tables), of::original::infos(&tables), over)
+    });
+    for (n, ours, theirs, over) in &cases {
+        b.row("module generate_candidates", *n, 1, &mut || _ = black_box(of::module::candidates(black_box(ours), over)), &mut || {
+            _ = black_box(of::original::candidates(black_box(theirs), over))
+        });
+    }
+    for (n, ours, theirs, over) in &cases {
         let (found, want) = (&of::module::candidates(ours, over), &of::original::candidates(theirs, over));
         let (estimates, wanted) = (of::module::estimates(ours, over, found), of::original::estimates(theirs, over, want));
         same("module generate_candidates and estimate_candidate", &of::module::words(found, &estimates), &of::original::words(want, &wanted));
-        b.row("module generate_candidates", n, 1, &mut || _ = black_box(of::module::candidates(black_box(ours), over)), &mut || {
-            _ = black_box(of::original::candidates(black_box(theirs), over))
-        });
-        b.row("module estimate_candidate, each", n, found.len(), &mut || _ = black_box(of::module::estimates(black_box(ours), over, found)), &mut || {
-            _ = black_box(of::original::estimates(black_box(theirs), over, want))
-        });
+        b.row(
+            "module estimate_candidate, each",
+            *n,
+            found.len(),
+            &mut || _ = black_box(of::module::estimates(black_box(ours), over, found)),
+            &mut || _ = black_box(of::original::estimates(black_box(theirs), over, want)),
+        );
     }
 }
 

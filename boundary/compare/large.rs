@@ -100,7 +100,11 @@ fn plan(d: &mut Dice, shape: u64, n: u64) -> Plan {
             return Plan { tables, trigger: d.below(9) as usize, over: entries, next: 3 * n };
         }
     };
-    let tables = shuffled(d, t);
+    let mut tables = shuffled(d, t);
+    if d.one_in(2) {
+        // the one that overlaps all below is where batches start
+        tables.iter_mut().filter(|t| t.last == SPACE.to_be_bytes() && t.level == 1).for_each(|t| t.number = 0);
+    }
     let over = over(d, &tables, &levels);
     Plan { trigger: d.below(9) as usize, next: 3 * tables.len() as u64 + 2, tables, over }
 }
@@ -175,11 +179,13 @@ fn compared(d: &mut Dice, plan: &Plan) -> u64 {
 fn chosen(d: &mut Dice, plan: &Plan, sides: &Sides, found: &[Found]) -> u64 {
     // the original looks through all tables for each number: too long where both are many
     let found: Vec<Found> = found.iter().filter(|f| f.numbers.len() * plan.tables.len() < 30_000_000).cloned().collect();
+    let odd: Vec<Found> = (0..6).map(|_| plans::odd_candidate(d, &plan.tables, 4)).collect();
+    plan.estimated(sides, &odd);
     let estimates = plan.estimated(sides, &found);
     let offered: Vec<(Found, Estimate)> = found.into_iter().zip(estimates).collect();
     let (v, f) = (vector(d), focus(d, 4));
     same("pick_best_cause_aware", dropin::pick(v, f, &offered), original::pick(v, f, &offered));
-    2 + offered.len() as u64
+    8 + offered.len() as u64
 }
 
 /// The seed tells shape and size, so that one number repeats it.

@@ -100,14 +100,15 @@ pub fn offers(d: &mut Dice, n: u64, levels: u64) -> Vec<(Found, Estimate)> {
 }
 
 /// A candidate that generation wouldn't give: numbers that no table has, or that come twice, or of any level.
-fn odd_candidate(d: &mut Dice, tables: &[Table], levels: u64) -> Found {
+pub fn odd_candidate(d: &mut Dice, tables: &[Table], levels: u64) -> Found {
     let kind = match 1 + d.below(3) {
         1 => (1, 0, 0),
         2 => (2, d.below(levels) as u32, 1 + d.below(8) as usize),
         _ => (3, d.below(levels) as u32, 0),
     };
+    let many = d.below(21);
     let mut number = || if tables.is_empty() || d.one_in(5) { d.below(300) } else { tables[d.below(tables.len() as u64) as usize].number };
-    let numbers = (0..20).map(|_| number()).collect();
+    let numbers = (0..many).map(|_| number()).collect();
     Found { kind, numbers, output_level: kind.1 + 1 }
 }
 

@@ -334,6 +334,7 @@ unsigned long frozen(const char *questions, const char *answers) {
         if (strcmp(answer, right) && missed++ < 20)
             printf("frozen: line %lu, %s: %.300s\n    and should be %.300s\n", line, question, answer, right);
     }
+    WANT(count > 10000);
     free(question);
     free(right);
     fclose(asked);

@@ -40,16 +40,16 @@ void try_record_decision(void) {
     uint64_t r = coinhamper_record_decision(WORDS(head), WORDS(words), WORDS(d));
     judge(r, want);
     left(head, r ? 0 : 24);
-    if (r == 0) lent_allow(words, 14 * 8 * ((old[0] + old[1]) % 4096), 14 * 8);
+    uint64_t at = 14 * ((old[0] + old[1]) % 4096), full = old[1] == 4096, *got = FILL(words) + at;
+    if (r == 0) lent_allow(words, 8 * at, 14 * 8);
     left(words, 0);
     if (r) return;
     /* R6.4, R6.5 */
-    uint64_t at = 14 * ((old[0] + old[1]) % 4096), full = old[1] == 4096, *got = FILL(words) + at;
     WANT(FILL(head)[0] == (old[0] + full) % 4096 && FILL(head)[1] == old[1] + !full && FILL(head)[2] == old[2] + (old[2] != UINT64_MAX));
     WANT(got[0] == FILL(head)[2]);
     for (size_t i = 1; i < 14; i++) {
         uint64_t word = FILL(d)[i];
-        WANT(got[i] == ((i >= 1 && i <= 3) || i >= 11 ? bits_of(float_of(word)) : word));
+        WANT(got[i] == (i <= 3 || i >= 11 ? bits_of(float_of(word)) : word));
     }
 }
 

@@ -12,7 +12,7 @@
 #define COUNT(list) (sizeof(list) / sizeof *(list))
 
 static uint64_t state[STATE_WORDS], old[STATE_WORDS];
-static uint64_t head[3], log_words[COINHAMPER_LOG_WORDS + 1], log_old[COINHAMPER_LOG_WORDS + 1];
+static uint64_t head[COINHAMPER_HEAD_WORDS], log_words[COINHAMPER_LOG_WORDS + 1], log_old[COINHAMPER_LOG_WORDS + 1];
 
 static void keep(void) {
     memcpy(old, state, sizeof state);
@@ -23,8 +23,8 @@ static bool kept(void) {
 }
 
 static uint64_t mode(void) {
-    uint64_t out[8] = {FILLED};
-    WANT(coinhamper_read(state, STATE_WORDS, out, 8) == 0);
+    uint64_t out[COINHAMPER_READING_WORDS] = {FILLED};
+    WANT(coinhamper_read(state, STATE_WORDS, out, COINHAMPER_READING_WORDS) == 0);
     return out[0];
 }
 
@@ -108,10 +108,10 @@ static void figures(void) {
     const uint64_t stats[14] = {2, one, one, 0, 0, 1, 1, 0, 2, bits_of(3.5), 1, 50, 2, bits_of(1.25)};
     memset(out, 0xee, sizeof out);
     keep();
-    WANT(coinhamper_read(state, STATE_WORDS, out, 7) == 9 && out[0] == FILLED);
+    WANT(coinhamper_read(state, STATE_WORDS, out, COINHAMPER_READING_WORDS - 1) == 9 && out[0] == FILLED);
     WANT(coinhamper_read(state, STATE_WORDS, out, 15) == 0 && !memcmp(out, reading, sizeof reading) && out[8] == FILLED);
     memset(out, 0xee, sizeof out);
-    WANT(coinhamper_snapshot(state, STATE_WORDS, 3500000, out, 13) == 9 && out[0] == FILLED);
+    WANT(coinhamper_snapshot(state, STATE_WORDS, 3500000, out, COINHAMPER_SNAPSHOT_WORDS - 1) == 9 && out[0] == FILLED);
     WANT(coinhamper_snapshot(state, STATE_WORDS, 3500000, out, 15) == 0 && !memcmp(out, stats, sizeof stats) && out[14] == FILLED);
     WANT(kept());
     WANT(coinhamper_record_candidate_chosen(state, STATE_WORDS, 0, 1, 3) == 101 && coinhamper_record_candidate_chosen(state, STATE_WORDS, 4, 1, 3) == 101);
@@ -127,7 +127,8 @@ static void figures(void) {
     WANT(coinhamper_snapshot(state, STATE_WORDS, 0, out, 14) == 2);
     state[27] = 1;
     state[17] = UINT64_MAX;
-    WANT(coinhamper_snapshot(state, STATE_WORDS, 1000001, out, 14) == 3 && coinhamper_snapshot(state, STATE_WORDS, 1000000, out, 14) == 0);
+    WANT(coinhamper_snapshot(state, STATE_WORDS, 1000001, out, 14) == 3);
+    WANT(coinhamper_snapshot(state, STATE_WORDS, 1000000, out, COINHAMPER_SNAPSHOT_WORDS) == 0);
 }
 
 /* Each word that can make the words none, spoilt in turn, refused by every call that takes a state. */
@@ -207,16 +208,18 @@ static void merges(void) {
     memcpy(e, estimates, sizeof estimates);
     e[7] = bits_of(1.5);
     WANT(coinhamper_pick_best_cause_aware(0, 1, 0, 0, 0, 0, candidates, 24, e, 36, p, 5) == 8);
-    WANT(coinhamper_pick_best_cause_aware(0, 1, 0, 0, 0, 0, candidates, 24, estimates, 36, p, 5) == 9 && p[0] == FILLED);
+    WANT(coinhamper_pick_best_cause_aware(0, 1, 0, 0, 0, 0, candidates, 24, estimates, 36, p, COINHAMPER_CHOICE_WORDS - 1) == 9 && p[0] == FILLED);
     WANT(coinhamper_pick_best_cause_aware(0, 1, 0, 0, 0, 0, candidates, 24, estimates, 36, p, 7) == 0);
     WANT(!memcmp(p, picked, sizeof picked) && p[6] == FILLED);
-    WANT(coinhamper_pick_best_cause_aware(0, 1, 0, 1, 4, 2, NULL, 0, NULL, 0, p, 6) == 0);
+    WANT(coinhamper_pick_best_cause_aware(0, 1, 0, 1, 4, 2, NULL, 0, NULL, 0, p, COINHAMPER_CHOICE_WORDS) == 0);
     WANT(p[0] == 0 && p[1] == 0 && p[2] == 0 && p[3] == 0 && p[4] == 0 && p[5] == 0);
     /* 5/6 of relief, nothing to rewrite; four bytes halve it */
     WANT(same_float(coinhamper_cause_aware_score(0, 1, 0, 0, 0, 0, 5.0 / 6, 0), 5.0 / 6));
     WANT(same_float(coinhamper_cause_aware_score(0, 1, 0, 4, 0, 0, 5.0 / 6, 0), 5.0 / 12));
 
+    const uint64_t seven[7] = {1, 3, 1, 1, 1, 3, 0};
     WANT(coinhamper_scheduling_decision(0, 1, 0, picked, 5, candidates, 24, estimates, 36, d, 0) == 101);
+    WANT(coinhamper_scheduling_decision(0, 1, 0, seven, 7, candidates, 24, estimates, 36, d, 14) == 101);
     const uint64_t won_twice[6] = {2, 3, 1, 1, 1, 3}, tier_four[6] = {1, 3, 1, 1, 1, 4}, none[6] = {0, 3, 1, 1, 1, 3}, past[6] = {1, UINT64_MAX, 0, 0, 0, 3};
     WANT(coinhamper_scheduling_decision(0, 1, 0, won_twice, 6, candidates, 24, estimates, 36, d, 14) == 101);
     WANT(coinhamper_scheduling_decision(0, 1, 0, tier_four, 6, candidates, 24, estimates, 36, d, 14) == 101);
@@ -242,13 +245,14 @@ static void decisions(void) {
     WANT(coinhamper_is_decision(NULL, 0) == 0);
     WANT(coinhamper_kept_place(0, 4095) == 4095 && coinhamper_kept_place(4095, 1) == 0 && coinhamper_kept_place(UINT64_MAX, UINT64_MAX) == 4094);
     WANT(coinhamper_record_decision(head, 2, log_words, all, bad, 14) == 10 && coinhamper_record_decision(head, 3, log_words, all - 1, bad, 14) == 10);
-    WANT(coinhamper_record_decision(head, 3, log_words, all + 1, bad, 14) == 10);
+    const uint64_t four[4] = {0, 0, 0, 0};
+    WANT(coinhamper_record_decision(head, 3, log_words, all + 1, bad, 14) == 10 && coinhamper_recent_decisions(four, 4, log_words, all, out, 14) == 10);
     const uint64_t first[3] = {4096, 0, 0}, count[3] = {0, 4097, 0};
     WANT(coinhamper_recent_decisions(first, 3, log_words, all, out, 14) == 10 && coinhamper_recent_decisions(count, 3, log_words, all, out, 14) == 10);
     WANT(coinhamper_fits_length(first, 3, log_words, all, &n) == 10 && n == 77);
     WANT(coinhamper_record_decision(head, 3, log_words, all, bad, 14) == 5 && coinhamper_record_decision(head, 3, log_words, all, decision, 13) == 5);
     WANT(log_kept() && head[0] == 0 && head[1] == 0 && head[2] == 0);
-    WANT(coinhamper_recent_decisions(head, 3, log_words, all, NULL, 0) == 0);
+    WANT(coinhamper_recent_decisions(head, COINHAMPER_HEAD_WORDS, log_words, all, NULL, 0) == 0);
     WANT(coinhamper_fits_length(head, 3, log_words, all, &n) == 0 && n == 8640);
     WANT(coinhamper_record_decision(head, 3, log_words, all, decision, 14) == 0 && head[0] == 0 && head[1] == 1 && head[2] == 1);
     uint64_t digest = 0;
@@ -294,6 +298,8 @@ static void texts(void) {
     memset(out, '.', sizeof out);
     memcpy(log_old, log_words, sizeof log_words);
     WANT(coinhamper_read_log(ends, 4097, head, 2, log_words, all) == 10 && coinhamper_read_log(ends, 4097, head, 3, log_words, all - 1) == 10);
+    uint64_t four[4] = {0, 0, 0, 0};
+    WANT(coinhamper_read_log(NULL, 0, four, 4, log_words, all) == 10);
     WANT(coinhamper_read_log(ends, 4097, head, 3, log_words, all) == 4 && coinhamper_read_log(bad, 6, head, 3, log_words, all) == 5);
     WANT(log_kept() && head[0] == 0 && head[1] == 1 && head[2] == 1);
     head[0] = UINT64_MAX; /* what the head was does not matter */

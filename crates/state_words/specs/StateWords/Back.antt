@@ -51,12 +51,12 @@ mode-back Balanced = refl
 mode-back ReadProtect = refl
 mode-back WriteEmergency = refl
 
-focus-good : (f : FocusLevel) → focusLevel f ≤ 2 ^ 32 - 1 → focusGood (focusFlag f) (focusLevel f) ≡ true
+pub focus-good : (f : FocusLevel) → focusLevel f ≤ 2 ^ 32 - 1 → focusGood (focusFlag f) (focusLevel f) ≡ true
 unfolding focusGood
 focus-good Nothing h = refl
 focus-good (Level l) h = le-leb l (2 ^ 32 - 1) h
 
-focus-back : (f : FocusLevel) (n : ℕ) → focusFrom (focusFlag f) (focusLevel f) n ≡ (record { «current_focus» = f; streak = n })
+pub focus-back : (f : FocusLevel) (n : ℕ) → focusFrom (focusFlag f) (focusLevel f) n ≡ (record { «current_focus» = f; streak = n })
 unfolding focusFrom
 focus-back Nothing n = refl
 focus-back (Level l) n = refl

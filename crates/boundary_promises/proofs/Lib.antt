@@ -1,0 +1,3 @@
+-- Runs of calls on words.
+pub mod Fitting
+pub mod WordRuns

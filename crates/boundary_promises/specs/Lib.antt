@@ -1,0 +1,2 @@
+-- Runs of calls on words.
+pub mod WordRuns

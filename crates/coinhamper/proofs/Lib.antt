@@ -1,0 +1,2 @@
+-- What the exports' contracts decide.
+pub mod Decided
