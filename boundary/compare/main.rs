@@ -122,7 +122,7 @@ fn main() {
     fallbacks::all_were_taken(runs);
     let [run, plan, large, fallback] = done.parts;
     println!(
-        "compare: seed {seed}: {} runs of {} calls, {} plans of {}, {} of over 1,024 tables of {}, {} of fallbacks of {}: no difference, {:.0} s",
+        "compare: seed {seed}: {} runs of {} calls, {} plans of {}, {} of over 1,024 tables of {}, {} cases of fallbacks: no difference, {:.0} s",
         run.0,
         run.1,
         plan.0,
@@ -130,7 +130,6 @@ fn main() {
         large.0,
         large.1,
         fallback.0,
-        fallback.1,
         began.elapsed().as_secs_f64()
     );
 }

@@ -1,11 +1,12 @@
 -- Answers as words, and the number that a call with a lent buffer for them gives. Definitions only.
 pub mod Told
+pub mod Reading
 use Prim.Native.Nat.{ℕ}
 use mathlib.Core.Bool.{cond}
 use mathlib.Core.List.{List, [], _∷_, _++_}
 use lib.ListN.{getD, replicate}
 use lib.Dec.{ltb, eqb}
-use lib.Ieee.{binary64, toBits}
+use lib.Ieee.{binary64, ofBits, toBits}
 use Rattle.refusals.specs.Refusals.{none, noRoom}
 use Rattle.kinds.specs.declared.winner.Winner.{Winner}
 use Rattle.kinds.specs.Numbers.{modeNumber, tierNumber, focusNumbers, winnerNumbers}
@@ -26,6 +27,14 @@ readingWords s =
     modeNumber (s .mode) ∷ toBits binary64 (s .signals .«last_pressure»)
     ∷ toBits binary64 (s .signals .«pressure_vector» .l0) ∷ toBits binary64 (s .signals .«pressure_vector» .«deep_debt») ∷ toBits binary64 (s .signals .«pressure_vector» .read)
     ∷ focusFlag (s .focus .«current_focus») ∷ focusLevel (s .focus .«current_focus») ∷ s .focus .streak
+    ∷ []
+
+-- the same off the words of a state
+unfoldable pub readingIn : List ℕ → List ℕ
+readingIn ws =
+    getD ws 1 0 ∷ toBits binary64 (ofBits binary64 (getD ws 4 0))
+    ∷ toBits binary64 (ofBits binary64 (getD ws 6 0)) ∷ toBits binary64 (ofBits binary64 (getD ws 7 0)) ∷ toBits binary64 (ofBits binary64 (getD ws 8 0))
+    ∷ getD ws 9 0 ∷ getD ws 10 0 ∷ getD ws 11 0
     ∷ []
 
 -- the figures of a snapshot; beside a refusal nobody gets the zeros

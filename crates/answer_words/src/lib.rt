@@ -6,7 +6,9 @@ ghost use lib.Dec.{eqb};
 ghost use Rattle.refusals.specs.Refusals.{none};
 ghost use Rattle.refusals.specs.Written.{writtenOut};
 ghost use Rattle.snapshot.specs.Snapshot.{figures, snapshotRefusal};
-ghost use Rattle.answer_words.specs.AnswerWords.{answerFault, readingWords, figuresOr, winnerFlag, winnerPlace, pickedWords};
+ghost use lib.Ieee.{binary64, ofBits, toBits};
+ghost use Rattle.state_words.specs.StateWords.{stateIn};
+ghost use Rattle.answer_words.specs.AnswerWords.{answerFault, readingWords, readingIn, figuresOr, winnerFlag, winnerPlace, pickedWords};
 use arith::floats;
 use choice::Picked;
 use kinds::winner::Winner;
@@ -14,6 +16,7 @@ use snapshot::GovernorStats;
 use snapshot::SnapshotAnswer;
 use state::GovernorState;
 use state_words::focus_words;
+use state_words::is_state;
 
 // What the call refuses by comes before a buffer that is too short.
 pub fn answer(out: &mut [u64], refusal: u64, words: &[u64]) -> u64
@@ -41,25 +44,37 @@ pub fn tell(count: &mut usize, refusal: u64, written: usize) -> u64
     refusal
 }
 
-// Mode, pressure, the three of the vector, focus.
-pub fn reading_words(s: GovernorState) -> [u64; 8]
-    ensures { λ r. ⌜ r ≡ readingWords s ⌝ }
+// The one pattern for a NaN.
+fn canonical(bits: u64) -> u64
+    ensures { λ r. ⌜ r ≡ toBits binary64 (ofBits binary64 bits) ⌝ }
 {
-    let mode = s.mode();
-    let v = s.pressure_vector();
-    let focus = s.focus();
-    let level = focus.current_focus;
-    let f = focus_words(level);
+    floats::to_bits(floats::of_bits(bits))
+}
+
+fn reading_in(words: &[u64]) -> [u64; 8]
+    requires { ⌜ length (now words) ≡ 28 ⌝ }
+    ensures { λ r. ⌜ r ≡ readingIn (now (words .entry)) ⌝ }
+{
     [
-        mode.idx(),
-        floats::to_bits(s.pressure()),
-        floats::to_bits(v.l0),
-        floats::to_bits(v.deep_debt),
-        floats::to_bits(v.read),
-        f.flag,
-        f.level,
-        focus.streak as u64,
+        words[1],
+        canonical(words[4]),
+        canonical(words[6]),
+        canonical(words[7]),
+        canonical(words[8]),
+        words[9],
+        words[10],
+        words[11],
     ]
+}
+
+// Of the state in some words mode, pressure, the three of the vector and the focus, read off the words.
+pub fn reading_of(words: &[u64]) -> [u64; 8]
+    ensures { λ r. ⌜ r ≡ readingWords (stateIn (now (words .entry))) ⌝ }
+{
+    if is_state(words) {
+        return reading_in(words);
+    }
+    [0; 8]
 }
 
 fn stats_words(t: GovernorStats) -> [u64; 14]

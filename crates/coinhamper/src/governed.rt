@@ -66,8 +66,7 @@ pub extern "C" fn coinhamper_observe(
         tables_probed_per_get,
         backlog_levels,
     };
-    let o = governor::observe(state_in(&*state), clock, sample);
-    keep(state, o)
+    observe_words::observe(state, clock, sample)
 }
 
 #[no_mangle]
@@ -199,7 +198,7 @@ pub extern "C" fn coinhamper_read(state: &[u64], out: &mut [u64]) -> u64
     ensures { λ r. ⌜ r ≡ answerFault (gated (now (state .entry)) 0) 8 (length (now (out .entry))) ⌝ }
     ensures { λ r. ⌜ now (out .exit) ≡ writtenOut r (readingWords (stateIn (now (state .entry)))) (now (out .entry)) ⌝ }
 {
-    let eight = answer_words::reading_words(state_in(state));
+    let eight = answer_words::reading_of(state);
     answer(out, gate(state, refusals::NONE), &eight)
 }
 

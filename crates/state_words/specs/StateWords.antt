@@ -1,6 +1,7 @@
 -- A governor's state in 28 words: which words are one, the state in them, its words, and what a call on words answers and leaves. Definitions only.
 pub mod Sound
 pub mod Back
+pub mod Kept
 use mathlib.Core.Path.{_≡_}
 use Prim.Native.Nat.{ℕ, _+_, _-_, _^_, _≤_}
 use mathlib.Core.Bool.{Bool, cond, _&&_}

@@ -1,0 +1,2 @@
+-- An observation on words.
+pub mod ObserveWords
