@@ -99,8 +99,7 @@ pub extern "C" fn coinhamper_observe_engine(
         l0_tables_probed,
         leveled_tables_probed,
     };
-    let o = engine::observe_engine(state_in(&*state), clock, sample, read_amp);
-    keep(state, o)
+    observe_words::windowed::observe_engine(state, clock, sample, read_amp)
 }
 
 // Kinds are 1 L0, 2 a batch of a level, 3 a move of a level.

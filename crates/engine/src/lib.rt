@@ -14,23 +14,20 @@ use windows::resolved_since;
 use windows::resolved_sum;
 use windows::window_fault;
 
-// Tables probed for each get that a table resolved, since the last observation.
-fn probed_per_get(w: Window, tables_probed_ewma: f64, a: ReadAmpStats) -> f64
-    requires { ⌜ probedSum a ≤ 2 ^ 64 - 1 ⌝ }
-    ensures { λ r. ⌜ r ≡ perGet w «tables_probed_ewma» a ⌝ }
+// Tables probed for each get that a table resolved, since the last observation. A sum of probes past the largest u64 stops there: `window_fault` refuses it.
+pub fn probed_per_get(w: Window, tables_probed_ewma: f64, a: ReadAmpStats) -> f64
+    ensures { λ r. ⌜ (probedSum a ≤ 2 ^ 64 - 1 → r ≡ perGet w «tables_probed_ewma» a) ⌝ }
 {
     let resolved = resolved_since(w, a);
     if 0 < resolved {
-        let probed = counts::saturating_sub(
-            a.l0_tables_probed + a.leveled_tables_probed,
-            w.last_probed,
-        );
+        let sum = counts::saturating_add(a.l0_tables_probed, a.leveled_tables_probed);
+        let probed = counts::saturating_sub(sum, w.last_probed);
         return arith::whole::of_u64(probed) / arith::whole::of_u64(resolved);
     }
     tables_probed_ewma
 }
 
-fn sample(e: EngineSample, tables_probed_per_get: f64) -> PressureSample
+pub fn sample(e: EngineSample, tables_probed_per_get: f64) -> PressureSample
     ensures { λ r. ⌜ r ≡ sampleWith e «tables_probed_per_get» ⌝ }
 {
     PressureSample {
@@ -42,12 +39,11 @@ fn sample(e: EngineSample, tables_probed_per_get: f64) -> PressureSample
     }
 }
 
-fn window_now(a: ReadAmpStats) -> Window
-    requires { ⌜ probedSum a ≤ 2 ^ 64 - 1 ⌝ }
-    ensures { λ r. ⌜ r ≡ windowOf a ⌝ }
+pub fn window_now(a: ReadAmpStats) -> Window
+    ensures { λ r. ⌜ (probedSum a ≤ 2 ^ 64 - 1 → r ≡ windowOf a) ⌝ }
 {
     Window {
-        last_probed: a.l0_tables_probed + a.leveled_tables_probed,
+        last_probed: counts::saturating_add(a.l0_tables_probed, a.leveled_tables_probed),
         last_resolved: resolved_sum(a),
     }
 }

@@ -1,5 +1,6 @@
 -- The words that an accepted observation writes, among those that it leaves. Definitions only.
 pub mod Laws
+pub mod Engine
 use Prim.Native.Nat.{ℕ, _+_, _-_, _^_}
 use mathlib.Core.Bool.{Bool, cond, _&&_, _||_}
 use lib.Dec.{ltb}

@@ -21,7 +21,9 @@ use state::clock::time_full;
 use state::clock::times_after;
 use state_words::mode_of;
 
-fn streaks_in(words: &[u64]) -> Streaks
+pub mod windowed;
+
+pub(crate) fn streaks_in(words: &[u64]) -> Streaks
     requires { ⌜ Good (now words) ⌝ }
     ensures { λ r. ⌜ r ≡ stateFrom (now (words .entry)) .streaks ⌝ }
 {

@@ -3,10 +3,11 @@
 use mathlib.Core.Path.{_≡_, refl}
 use mathlib.Core.Bool.{Bool, true, false, cond, not, _||_}
 use mathlib.Core.List.{[], _∷_}
-use Prim.Native.Nat.{ℕ, _-_, _^_, _≤_}
+use native.Mathlib.Omega.{arith}
+use Prim.Native.Nat.{ℕ, _-_, _^_, _≤_, _+_}
 use lib.Dec.{ltb, eqb}
 use borrow.Author.Tests.{ltb-false, ne-eqb}
-use Rattle.counts.specs.Counts.{anyLarge}
+use Rattle.counts.specs.Counts.{anyLarge, saturatingAdd}
 use Rattle.refusals.specs.Refusals.{_gives_, firstFault, none, badState, tooLarge, counterFull}
 use Rattle.refusals.specs.Checks.{none-found}
 use Rattle.kinds.specs.Tuning.{Tuning}
@@ -54,3 +55,7 @@ module _ (G : Tuning) (s : GovernorState) (now : ℕ) (e : EngineSample) (a : Re
         → record { refusal = o .refusal; state = record { mode = o .state .mode; signals = o .state .signals; focus = o .state .focus; streaks = o .state .streaks; times = o .state .times; window = w; counters = o .state .counters } } ≡ engineOf G s now e a
     unfolding engineOf observedOf acceptedOf
     accepted r w new = simp (engine-fault, h, answer, rw answer at r, new)
+
+-- a sum that fits is what a sum that stops at the largest u64 is
+pub exact : (a b : ℕ) → a + b ≤ 2 ^ 64 - 1 → saturatingAdd a b ≡ a + b
+exact a b h = omega (arith, h)

@@ -43,7 +43,7 @@ observed-words ws clock p e = let k = kept ws e in overlay ws (k .long) _ _ _ _ 
 
 -- ---- the call
 
-state-in : (ws : List ℕ) → isState ws ≡ true → stateIn ws ≡ stateFrom ws
+pub state-in : (ws : List ℕ) → isState ws ≡ true → stateIn ws ≡ stateFrom ws
 unfolding stateIn
 state-in ws e = rw e
 
