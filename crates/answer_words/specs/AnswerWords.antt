@@ -15,7 +15,7 @@ use Rattle.snapshot.specs.declared.SnapshotAnswer.{SnapshotAnswer}
 use Rattle.snapshot.specs.declared.SnapshotAnswer.the-variants.{Stats, Refused}
 use Rattle.snapshot.specs.Snapshot.{figures}
 use Rattle.choice.specs.declared.Picked.{Picked}
-use Rattle.state_words.specs.StateWords.{focusFlag, focusLevel}
+use Rattle.state_words.specs.StateWords.{focusFlag, focusLevel, isState, stateIn}
 
 -- the call's own refusal, then 9 where so many words have no room
 unfoldable pub answerFault : ℕ → ℕ → ℕ → ℕ
@@ -36,6 +36,10 @@ readingIn ws =
     ∷ toBits binary64 (ofBits binary64 (getD ws 6 0)) ∷ toBits binary64 (ofBits binary64 (getD ws 7 0)) ∷ toBits binary64 (ofBits binary64 (getD ws 8 0))
     ∷ getD ws 9 0 ∷ getD ws 10 0 ∷ getD ws 11 0
     ∷ []
+
+-- the mode's number, where the words are a state
+unfoldable pub modeOr : List ℕ → ℕ → ℕ
+modeOr ws old = cond (isState ws) (modeNumber (stateIn ws .mode)) old
 
 -- the figures of a snapshot; beside a refusal nobody gets the zeros
 unfoldable pub figuresOr : SnapshotAnswer → List ℕ

@@ -7,8 +7,8 @@ ghost use Rattle.refusals.specs.Refusals.{none};
 ghost use Rattle.refusals.specs.Written.{writtenOut};
 ghost use Rattle.snapshot.specs.Snapshot.{figures, snapshotRefusal};
 ghost use lib.Ieee.{binary64, ofBits, toBits};
-ghost use Rattle.state_words.specs.StateWords.{stateIn};
-ghost use Rattle.answer_words.specs.AnswerWords.{answerFault, readingWords, readingIn, figuresOr, winnerFlag, winnerPlace, pickedWords};
+ghost use Rattle.state_words.specs.StateWords.{stateIn, gated};
+ghost use Rattle.answer_words.specs.AnswerWords.{answerFault, readingWords, readingIn, modeOr, figuresOr, winnerFlag, winnerPlace, pickedWords};
 use arith::floats;
 use choice::Picked;
 use kinds::winner::Winner;
@@ -75,6 +75,18 @@ pub fn reading_of(words: &[u64]) -> [u64; 8]
         return reading_in(words);
     }
     [0; 8]
+}
+
+// The mode alone, for a caller that asks after every observation.
+pub fn tell_mode(mode: &mut u64, words: &[u64]) -> u64
+    ensures { λ r. ⌜ r ≡ gated (now (words .entry)) none ⌝ }
+    ensures { λ _. ⌜ now (mode .exit) ≡ modeOr (now (words .entry)) (now (mode .entry)) ⌝ }
+{
+    if !is_state(words) {
+        return state_words::NOT_A_STATE;
+    }
+    *mode = words[1];
+    refusals::NONE
 }
 
 fn stats_words(t: GovernorStats) -> [u64; 14]

@@ -24,7 +24,7 @@ use Rattle.governor_promises.proofs.Thresholds.{source-apart}
 use Rattle.governor_promises.proofs.CallByCall.{list, reads-calls}
 use Rattle.state_words.specs.StateWords.{isState, stateIn, stateWords, gated, refusalOf, wordsAfter}
 use Rattle.state_words.specs.StateWords.Back.{Fits, focus-good, focus-back, words-good, back}
-use Rattle.answer_words.specs.AnswerWords.{readingWords}
+use Rattle.answer_words.specs.AnswerWords.{readingWords, modeOr}
 use Rattle.coinhamper.specs.Governed.{freshAfter, chosenBy, focusedBy}
 use Rattle.boundary_promises.specs.WordRuns.{saidOf, refusalOn, wordsOn, wordsRun, refusalsRun, refusals, Handed, EachHanded, modeRead}
 use Rattle.boundary_promises.proofs.Fitting.{fresh-fits, acted-fits}
@@ -108,6 +108,11 @@ module _ (ws : List ℕ) (long : length ws ≡ 28) (clock : ℕ) (l : List Actio
   mode-read : modeRead (wordsRun (freshAfter ws clock) l) ≡ modeNumber (after source (freshOf clock) l .mode)
   unfolding readingWords
   mode-read = rw (fresh-run, back (after source (freshOf clock) l) (run-fits (freshOf clock) l (fresh-fits clock) handed))
+
+  -- and so does `coinhamper_mode`
+  pub mode-told : (old : ℕ) → modeOr (wordsRun (freshAfter ws clock) l) old ≡ modeRead (wordsRun (freshAfter ws clock) l)
+  unfolding modeOr readingWords
+  mode-told old = rw stays-a-state
 
   -- demand 3: the mode that is read is the one that the list of accepted observations reads as
   pub reads-words : (m : GovernorMode) → (modeRead (wordsRun (freshAfter ws clock) l) ≡ modeNumber m) ↔ ReadsAs source (list clock l) m

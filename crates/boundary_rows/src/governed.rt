@@ -9,6 +9,13 @@ fn read(name: &[u8], refusal: u64, s: &[u64]) {
     told(name, refusal, out[0], out[7]);
 }
 
+// The refusal and the mode, 7 where none was told.
+fn mode(s: &[u64]) {
+    let mut number: u64 = 7;
+    let refusal = governed::coinhamper_mode(s, &mut number);
+    told(b"mode", refusal, number, 0);
+}
+
 // The refusal and the nanoseconds.
 fn pacing(mode: u64) {
     let mut nanos: u64 = 7;
@@ -65,6 +72,7 @@ fn figures(s: &[u64], out: &mut [u64]) {
 
 fn observing(s: &mut [u64]) {
     observe(&mut *s, 1, 3);
+    mode(&*s);
     observe(&mut *s, 2, 9007199254740993);
     observe_engine(&mut *s, 2);
     observe_engine(&mut *s, 3);
@@ -109,4 +117,5 @@ pub(crate) fn rows() {
     unread(&s);
     s[0] = 0x436f_696e_6861_6d02;
     unread(&s);
+    mode(&s);
 }

@@ -22,6 +22,7 @@ use Rattle.coinhamper.proofs.governed.coinhamper_record_trivial_move.Re
 use Rattle.coinhamper.proofs.governed.coinhamper_record_outcome.Reads as record-outcome
 use Rattle.coinhamper.proofs.governed.coinhamper_set_focus.Reads as set-focus
 use Rattle.coinhamper.proofs.governed.coinhamper_read.Reads as read
+use Rattle.coinhamper.proofs.governed.coinhamper_mode.Reads as mode
 use Rattle.coinhamper.proofs.governed.coinhamper_snapshot.Reads as snapshot
 use Rattle.coinhamper.proofs.governed.coinhamper_pacing_delay.Reads as pacing-delay
 use Rattle.coinhamper.proofs.governed.coinhamper_dominant.Reads as dominant
@@ -102,6 +103,9 @@ set-focus-decides κs a one other e f p q = (p .0 ∙ sym (q .0), p .1 ∙ sym (
 
 pub read-decides : (κs : _) (a : _) (one other : _) (e f : _) → read.Post κs a one e → read.Post κs a other f → (one ≡ other) × (now (e .1 .0) ≡ now (f .1 .0))
 read-decides κs a one other e f p q = (p .0 ∙ sym (q .0), rw (p .1, q .1, p .0, q .0))
+
+pub mode-decides : (κs : _) (a : _) (one other : _) (e f : _) → mode.Post κs a one e → mode.Post κs a other f → (one ≡ other) × (now (e .1 .0) ≡ now (f .1 .0))
+mode-decides κs a one other e f p q = (p .0 ∙ sym (q .0), p .1 ∙ sym (q .1))
 
 pub snapshot-decides : (κs : _) (a : _) (one other : _) (e f : _) → snapshot.Post κs a one e → snapshot.Post κs a other f → (one ≡ other) × (now (e .1 .1 .0) ≡ now (f .1 .1 .0))
 snapshot-decides κs a one other e f p q = (p .0 ∙ sym (q .0), rw (p .1, q .1, p .0, q .0))

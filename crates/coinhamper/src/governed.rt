@@ -12,7 +12,7 @@ ghost use Rattle.report.specs.Counters.{trivialMoveOf, outcomeOf};
 ghost use Rattle.snapshot.specs.Snapshot.{snapshotOf, snapshotRefusal};
 ghost use Rattle.state.specs.State.{answered};
 ghost use Rattle.state_words.specs.StateWords.{noSuchCase, stateIn, gated, refusalOf, wordsAfter};
-ghost use Rattle.answer_words.specs.AnswerWords.{answerFault, readingWords, figuresOr};
+ghost use Rattle.answer_words.specs.AnswerWords.{answerFault, readingWords, modeOr, figuresOr};
 ghost use Rattle.coinhamper.specs.Governed.{vectorOf, sampleOf, engineSampleOf, readAmpOf, freshRefusal, freshAfter, chosenBy, focusedBy, pacingRefusal, pacingAfter};
 use answer_words::answer;
 use kinds::kind::CandidateKind;
@@ -199,6 +199,15 @@ pub extern "C" fn coinhamper_read(state: &[u64], out: &mut [u64]) -> u64
 {
     let eight = answer_words::reading_of(state);
     answer(out, gate(state, refusals::NONE), &eight)
+}
+
+// The first of these words alone: 0 Balanced, 1 ReadProtect, 2 WriteEmergency.
+#[no_mangle]
+pub extern "C" fn coinhamper_mode(state: &[u64], mode: &mut u64) -> u64
+    ensures { λ r. ⌜ r ≡ gated (now (state .entry)) none ⌝ }
+    ensures { λ _. ⌜ now (mode .exit) ≡ modeOr (now (state .entry)) (now (mode .entry)) ⌝ }
+{
+    answer_words::tell_mode(mode, state)
 }
 
 // Fourteen words: the figures of `GovernorStats` in order.

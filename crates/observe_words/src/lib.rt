@@ -6,6 +6,7 @@ ghost use lib.ListN.{length, getD};
 ghost use Rattle.kinds.specs.Tuning.{source};
 ghost use Rattle.state.specs.State.{full};
 ghost use Rattle.pressure.specs.Pressure.{signalsOf};
+ghost use Rattle.pressure.specs.Sample.{fractionOf};
 ghost use Rattle.governor.specs.Observe.{nextOf, countersFull, switchedCount, observeFault, acceptedOf, observedOf};
 ghost use Rattle.state_words.specs.StateWords.{Good, streaksIn, timesIn, signalsIn, countersIn, stateFrom, stateIn, refusalOf, wordsAfter};
 ghost use Rattle.observe_words.specs.ObserveWords.{fullAt, signalWords, timeWords, observedWords};
@@ -47,8 +48,8 @@ fn times_in(words: &[u64]) -> Times
 }
 
 // The new signals: of the old ones only the three averages count.
-fn signals_after(words: &[u64], p: PressureSample) -> Signals
-    requires { ⌜ Good (now words) ⌝ }
+fn signals_after(words: &[u64], p: PressureSample, fraction: f64) -> Signals
+    requires { ⌜ Good (now words) × (fraction ≡ fractionOf p) ⌝ }
     ensures { λ r. ⌜ r ≡ signalsOf source (stateFrom (now (words .entry)) .signals) p ⌝ }
 {
     let averages = Signals {
@@ -62,19 +63,24 @@ fn signals_after(words: &[u64], p: PressureSample) -> Signals
             read: 0.0,
         },
     };
-    pressure::signals_after(averages, p)
+    let probed = pressure::smoothed(averages.tables_probed_ewma, p.tables_probed_per_get);
+    pressure::blended(
+        averages,
+        probed,
+        pressure::components_of(p, fraction, probed),
+    )
 }
 
 // The mode and the streaks after the observation.
-fn next(words: &[u64], p: PressureSample) -> NextMode
-    requires { ⌜ Good (now words) ⌝ }
+fn next(words: &[u64], p: PressureSample, fraction: f64) -> NextMode
+    requires { ⌜ Good (now words) × (fraction ≡ fractionOf p) ⌝ }
     ensures { λ r. ⌜ r ≡ nextOf source (stateFrom (now (words .entry))) p ⌝ }
 {
     let probed = pressure::smoothed(floats::of_bits(words[2]), p.tables_probed_per_get);
     modes::next_mode(
         mode_of(words[1]),
         streaks_in(words),
-        pressure::l0_fraction(p),
+        fraction,
         p.max_level_debt_ratio,
         probed,
     )
@@ -153,14 +159,14 @@ fn with_switch(switches: u64, switched: bool) -> u64
     switches
 }
 
-// The words after an observation that nothing refuses; the mode and the streaks after it are given.
-fn put_observed(words: &mut [u64], clock: u64, p: PressureSample, t: NextMode)
-    requires { ⌜ Good (now words) × (countersFull source (stateFrom (now words)) clock p ≡ false) × (t ≡ nextOf source (stateFrom (now words)) p) ⌝ }
+// The words after an observation that nothing refuses; its L0 fraction, and the mode and the streaks after it, are given.
+fn put_observed(words: &mut [u64], clock: u64, p: PressureSample, fraction: f64, t: NextMode)
+    requires { ⌜ Good (now words) × (countersFull source (stateFrom (now words)) clock p ≡ false) × (t ≡ nextOf source (stateFrom (now words)) p) × (fraction ≡ fractionOf p) ⌝ }
     ensures { λ _. ⌜ now (words .exit) ≡ observedWords (now (words .entry)) clock p ⌝ }
 {
     let was = mode_of(words[1]);
     let is = t.mode;
-    let signals = signal_words(is, signals_after(&*words, p));
+    let signals = signal_words(is, signals_after(&*words, p, fraction));
     let times = time_words(t.streaks, times_after(was, times_in(&*words), clock));
     let switches = with_switch(words[21], sound::are_different(was, is));
     let errors = floats::to_bits(floats::of_bits(words[26]));
@@ -177,12 +183,13 @@ pub fn observe(words: &mut [u64], clock: u64, p: PressureSample) -> u64
     if !state_words::is_state(&*words) {
         return state_words::NOT_A_STATE;
     }
-    let t = next(&*words, p);
+    let fraction = pressure::l0_fraction(p);
+    let t = next(&*words, p, fraction);
     let is = t.mode;
     let fault = observe_fault(&*words, clock, p, is);
     if fault != refusals::NONE {
         return fault;
     }
-    put_observed(words, clock, p, t);
+    put_observed(words, clock, p, fraction, t);
     refusals::NONE
 }

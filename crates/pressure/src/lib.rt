@@ -54,11 +54,13 @@ fn share(x: f64, limit: f64) -> f64
     arith::floats::minimum(x / limit, 1.0)
 }
 
-fn components_of(p: PressureSample, probed: f64) -> Components
+// Whoever decides on the mode has the L0 fraction already, so it is given.
+pub fn components_of(p: PressureSample, fraction: f64, probed: f64) -> Components
+    requires { ⌜ fraction ≡ fractionOf p ⌝ }
     ensures { λ r. ⌜ r ≡ componentsOf source p probed ⌝ }
 {
     Components {
-        l0: share(l0_fraction(p), WRITE_EMERGENCY_ENTER_L0_FRACTION),
+        l0: share(fraction, WRITE_EMERGENCY_ENTER_L0_FRACTION),
         debt: share(p.max_level_debt_ratio, WRITE_EMERGENCY_ENTER_DEBT_RATIO),
         backlog: share(
             arith::whole::of_u64(p.backlog_levels),
@@ -75,7 +77,7 @@ fn instant(c: Components) -> f64
     structural * (1.0 - PRESSURE_READAMP_WEIGHT) + c.read * PRESSURE_READAMP_WEIGHT
 }
 
-fn blended(g: Signals, probed: f64, c: Components) -> Signals
+pub fn blended(g: Signals, probed: f64, c: Components) -> Signals
     ensures { λ r. ⌜ r ≡ blendedOf g probed c ⌝ }
 {
     let pressure_ewma = smoothed(g.pressure_ewma, instant(c));
@@ -98,5 +100,5 @@ pub fn signals_after(g: Signals, p: PressureSample) -> Signals
     ensures { λ r. ⌜ r ≡ signalsOf source g p ⌝ }
 {
     let probed = smoothed(g.tables_probed_ewma, p.tables_probed_per_get);
-    blended(g, probed, components_of(p, probed))
+    blended(g, probed, components_of(p, l0_fraction(p), probed))
 }
