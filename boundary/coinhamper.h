@@ -91,6 +91,9 @@ uint64_t coinhamper_set_focus(uint64_t *state, size_t state_len, uint64_t focus_
 /* 100, 9. Eight words: mode, pressure, the vector's l0, deep debt and read, focus flag, level, streak. */
 uint64_t coinhamper_read(const uint64_t *state, size_t state_len, uint64_t *out, size_t out_len);
 
+/* 100. The first of these words alone. */
+uint64_t coinhamper_mode(const uint64_t *state, size_t state_len, uint64_t *mode);
+
 /* 100, 2, 3, 9. Fourteen words: mode, pressure, vector, switches, milliseconds in each mode, average batch, moves, bytes avoided, samples, mean
  * error. */
 uint64_t coinhamper_snapshot(const uint64_t *state, size_t state_len, uint64_t clock, uint64_t *out, size_t out_len);

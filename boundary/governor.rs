@@ -19,6 +19,7 @@
 #![allow(dead_code)]
 
 use crate::db::ReadAmpStats;
+use std::cell::Cell;
 use std::collections::{HashMap, HashSet};
 use std::fmt;
 use std::sync::atomic::{AtomicU64, Ordering::Relaxed};
@@ -73,6 +74,7 @@ mod library {
         pub fn coinhamper_record_outcome(state: *mut u64, state_len: usize, predicted: u64, actual: u64) -> u64;
         pub fn coinhamper_set_focus(state: *mut u64, state_len: usize, focus_flag: u64, focus_level: u32, focus_streak: u32) -> u64;
         pub fn coinhamper_read(state: *const u64, state_len: usize, out: *mut u64, out_len: usize) -> u64;
+        pub fn coinhamper_mode(state: *const u64, state_len: usize, mode: *mut u64) -> u64;
         pub fn coinhamper_snapshot(state: *const u64, state_len: usize, clock: u64, out: *mut u64, out_len: usize) -> u64;
         pub fn coinhamper_pacing_delay(mode: u64, pressure: f64, nanos: *mut u64) -> u64;
         pub safe fn coinhamper_dominant(l0: f64, deep_debt: f64, read: f64) -> u64;
@@ -143,6 +145,13 @@ mod library {
     pub fn read(state: &[u64], out: &mut [u64; 8]) -> Result<(), Refusal> {
         // SAFETY: two slices, each with its length.
         answer(unsafe { coinhamper_read(state.as_ptr(), state.len(), out.as_mut_ptr(), out.len()) })
+    }
+
+    pub fn mode(state: &[u64]) -> Result<GovernorMode, Refusal> {
+        let mut mode = 0;
+        // SAFETY: one slice, with its length, and a pointer to one u64.
+        answer(unsafe { coinhamper_mode(state.as_ptr(), state.len(), &mut mode) })?;
+        Ok(GovernorMode::of(mode))
     }
 
     pub fn snapshot(state: &[u64], clock: u64, out: &mut [u64; 14]) -> Result<(), Refusal> {
@@ -292,6 +301,10 @@ pub enum Fallback {
     /// `generate_candidates`: a size is above 2^40, so sizes are handed in as their ranks. Generation only sorts by them: the answer is the
     /// original's.
     SizesRanked,
+    /// `generate_candidates` and its `try_` fellow: a level and what it overlaps below are over 1,024 tables together, so the library is asked about
+    /// its smallest-numbered table and the up to seven after it in key order, and about the eight tables that a move takes, each with the tables
+    /// below that overlap them. The answer is the original's.
+    LevelSplit,
     /// `generate_candidates`: a merge would take over 1,024 tables. Of L0 the oldest tables are offered, as many as fit with what they overlap; of
     /// another level the shorter batches.
     LevelInPart,
@@ -305,7 +318,7 @@ pub enum Fallback {
 }
 
 impl Fallback {
-    pub const ALL: [Fallback; 11] = [
+    pub const ALL: [Fallback; 12] = [
         Fallback::CountsHalved,
         Fallback::ReadsHeld,
         Fallback::NotRecorded,
@@ -313,6 +326,7 @@ impl Fallback {
         Fallback::FiguresMissing,
         Fallback::LevelLeftOut,
         Fallback::SizesRanked,
+        Fallback::LevelSplit,
         Fallback::LevelInPart,
         Fallback::BuiltHere,
         Fallback::EstimatedHere,
@@ -691,8 +705,8 @@ pub(crate) fn pacing_delay(mode: GovernorMode, pressure: f64) -> Duration {
 /// The clock that the library is handed is the nanoseconds since `new`, by `Instant`, at most 2^64 - 1.
 pub(crate) struct GovernorState {
     state: Box<[u64]>,
-    /// What `coinhamper_read` answers, asked for after each change: mode, pressure, the vector's three, focus flag, level and streak.
-    reading: [u64; 8],
+    /// As after the last observation.
+    mode: GovernorMode,
     log_head: [u64; 3],
     /// None until there is a decision: 448 KB.
     log_words: Box<[u64]>,
@@ -714,15 +728,15 @@ impl GovernorState {
         assert_eq!(version, VERSION, "libcoinhamper.a has version {version}, governor.rs is for {VERSION}: take both from one release");
         let mut governor = GovernorState {
             state: vec![0; library::coinhamper_state_words()].into(),
-            reading: [0; 8],
+            mode: GovernorMode::default(),
             log_head: [0; 3],
             log_words: Box::default(),
             began: Instant::now(),
             batch_size_sum: 0,
             fallbacks: Fallbacks::new(),
         };
-        let made = library::fresh(&mut governor.state, 0).and_then(|()| governor.read_again());
-        assert_eq!(made, Ok(()), "libcoinhamper.a refuses to make a governor");
+        let made = library::fresh(&mut governor.state, 0).and_then(|()| library::mode(&governor.state));
+        assert_eq!(made, Ok(governor.mode), "libcoinhamper.a refuses to make a governor");
         governor
     }
 
@@ -735,8 +749,11 @@ impl GovernorState {
         u64::try_from(self.began.elapsed().as_nanos()).unwrap_or(u64::MAX)
     }
 
-    fn read_again(&mut self) -> Result<(), Refusal> {
-        library::read(&self.state, &mut self.reading)
+    /// Mode, pressure, the vector's three, focus flag, level and streak.
+    fn reading(&self) -> [u64; 8] {
+        let mut words = [0; 8];
+        self.recorded(library::read(&self.state, &mut words));
+        words
     }
 
     /// A refusal that leaves nothing else to do.
@@ -747,50 +764,68 @@ impl GovernorState {
     }
 
     pub(crate) fn mode(&self) -> GovernorMode {
-        GovernorMode::of(self.reading[0])
+        self.mode
     }
 
     pub(crate) fn pressure(&self) -> f64 {
-        f64::from_bits(self.reading[1])
+        f64::from_bits(self.reading()[1])
     }
 
     pub(crate) fn pressure_vector(&self) -> PressureVector {
-        PressureVector::of(&self.reading[2..])
+        PressureVector::of(&self.reading()[2..])
     }
 
     pub(crate) fn focus(&self) -> FocusState {
-        FocusState::of(&self.reading[5..])
+        FocusState::of(&self.reading()[5..])
+    }
+
+    /// Refused for no focus.
+    pub(crate) fn try_set_focus(&mut self, focus: FocusState) -> Result<(), Refusal> {
+        library::set_focus(&mut self.state, focus)
     }
 
     pub(crate) fn set_focus(&mut self, focus: FocusState) {
-        let result = library::set_focus(&mut self.state, focus).and_then(|()| self.read_again());
+        let result = self.try_set_focus(focus);
         self.recorded(result);
     }
 
-    pub(crate) fn record_decision(&mut self, decision: SchedulingDecision) {
+    /// Refused for no decision.
+    pub(crate) fn try_record_decision(&mut self, decision: SchedulingDecision) -> Result<(), Refusal> {
         if self.log_words.is_empty() {
             self.log_words = vec![0; LOG_WORDS].into();
         }
-        let result = library::record_decision(&mut self.log_head, &mut self.log_words, &decision.words());
+        library::record_decision(&mut self.log_head, &mut self.log_words, &decision.words())
+    }
+
+    pub(crate) fn record_decision(&mut self, decision: SchedulingDecision) {
+        let result = self.try_record_decision(decision);
         self.recorded(result);
     }
 
-    pub(crate) fn recent_decisions(&self) -> Vec<SchedulingDecision> {
+    /// Refused with 10 if something else has written to the log.
+    pub(crate) fn try_recent_decisions(&self) -> Result<Vec<SchedulingDecision>, Refusal> {
         let [_, count, _] = self.log_head;
         if count == 0 {
-            return Vec::new();
+            return Ok(Vec::new());
         }
         let mut out = vec![0; DECISION_WORDS * count as usize];
-        self.recorded(library::recent_decisions(&self.log_head, &self.log_words, &mut out));
-        out.chunks_exact(DECISION_WORDS).map(SchedulingDecision::of).collect()
+        library::recent_decisions(&self.log_head, &self.log_words, &mut out)?;
+        Ok(out.chunks_exact(DECISION_WORDS).map(SchedulingDecision::of).collect())
+    }
+
+    pub(crate) fn recent_decisions(&self) -> Vec<SchedulingDecision> {
+        self.try_recent_decisions().unwrap_or_else(|why| {
+            self.recorded(Err(why));
+            Vec::new()
+        })
     }
 
     /// Refused with 2 for a count above 2^53, with 3 for a full counter.
     pub(crate) fn try_observe(&mut self, sample: PressureSample) -> Result<GovernorMode, Refusal> {
         let clock = self.clock();
         library::observe(&mut self.state, clock, &sample)?;
-        self.read_again()?;
-        Ok(self.mode())
+        self.mode = library::mode(&self.state)?;
+        Ok(self.mode)
     }
 
     /// Falls back by `CountsHalved`, and by `NotRecorded` to the mode as it was.
@@ -807,7 +842,8 @@ impl GovernorState {
     fn observe_reads(&mut self, sample: &PressureSample, reads: [u64; 5]) -> Result<(), Refusal> {
         let clock = self.clock();
         library::observe_engine(&mut self.state, clock, sample, reads)?;
-        self.read_again()
+        self.mode = library::mode(&self.state)?;
+        Ok(())
     }
 
     /// Refused with 2 for a count above 2^53, also one of gets or probes since the last call, with 3 for a full counter or a sum of probes past
@@ -861,15 +897,21 @@ impl GovernorState {
         self.recorded(result);
     }
 
-    /// Falls back by `NotRecorded`.
-    pub(crate) fn record_candidate_chosen(&mut self, kind: CandidateKind) {
+    /// Refused with 2, by this file and not by the library, for batch lengths that add up to more than 2^53: every later snapshot would be refused.
+    pub(crate) fn try_record_candidate_chosen(&mut self, kind: CandidateKind) -> Result<(), Refusal> {
         let (number, level, batch_len) = kind.words();
         let sum = self.batch_size_sum.saturating_add(batch_len);
         if sum > MOST_COUNT {
-            return self.recorded(Err(TOO_LARGE));
+            return Err(TOO_LARGE);
         }
+        library::record_candidate_chosen(&mut self.state, number, level, batch_len)?;
         self.batch_size_sum = sum;
-        let result = library::record_candidate_chosen(&mut self.state, number, level, batch_len);
+        Ok(())
+    }
+
+    /// Falls back by `NotRecorded`.
+    pub(crate) fn record_candidate_chosen(&mut self, kind: CandidateKind) {
+        let result = self.try_record_candidate_chosen(kind);
         self.recorded(result);
     }
 
@@ -964,13 +1006,14 @@ struct Plan<'t> {
     ranks: Option<Vec<u64>>,
     /// Whether a merge of over 1,024 tables is offered in part or refused.
     mending: bool,
+    /// The levels that were asked for in parts.
+    splits: Cell<u64>,
 }
 
 impl<'t> Plan<'t> {
-    /// Refuses nothing when mending.
     fn candidates(&self, over: &[(u32, u64)]) -> Result<Vec<Candidate>, Refusal> {
         let mut out = Vec::new();
-        if !self.mending && self.tables.len() <= MOST_TABLES && over.len() <= MOST_ENTRIES {
+        if self.tables.len() <= MOST_TABLES && over.len() <= MOST_ENTRIES {
             self.ask(self.tables.iter(), self.l0_compaction_trigger as u64, over, &mut out)?;
             return Ok(out);
         }
@@ -978,18 +1021,40 @@ impl<'t> Plan<'t> {
         for &entry in over {
             self.level(entry, &mut out)?;
         }
+        self.count_splits();
         Ok(out)
+    }
+
+    /// Level by level, whatever the size; a level that is refused even so is left out, and counted.
+    fn mended(&self, over: &[(u32, u64)]) -> Vec<Candidate> {
+        let mut out = Vec::new();
+        let left_out = |asked: Result<(), Refusal>| {
+            if let Err(why) = asked {
+                OF_PLANS.note(Fallback::LevelLeftOut, why);
+            }
+        };
+        left_out(self.level_zero(&mut out));
+        over.iter().for_each(|&entry| left_out(self.level(entry, &mut out)));
+        self.count_splits();
+        out
+    }
+
+    fn count_splits(&self) {
+        for _ in 0..self.splits.get() {
+            OF_PLANS.note(Fallback::LevelSplit, TOO_MANY);
+        }
     }
 
     /// One question. A refused one adds nothing.
     fn ask<'a>(
         &self,
-        tables: impl Iterator<Item = &'a TableInfo>,
+        tables: impl Iterator<Item = &'a TableInfo> + Clone,
         trigger: u64,
         over: &[(u32, u64)],
         out: &mut Vec<Candidate>,
     ) -> Result<(), Refusal> {
-        let (mut words, mut keys) = (Vec::with_capacity(7 * tables.size_hint().0), Vec::new());
+        let (count, bytes) = tables.clone().fold((0, 0), |(n, bytes), t| (n + 1, bytes + t.first_key.len() + t.last_key.len()));
+        let (mut words, mut keys) = (Vec::with_capacity(7 * count), Vec::with_capacity(bytes));
         for t in tables {
             let (first, last) = (keys.len() as u64, (keys.len() + t.first_key.len()) as u64);
             keys.extend_from_slice(&t.first_key);
@@ -1081,6 +1146,7 @@ impl<'t> Plan<'t> {
             }
         }
         // Too crowded for one question: one about the eight tables that batches are made of, and one about the eight that a move is made of.
+        self.splits.set(self.splits.get() + 1);
         by_key.sort_by(|a, b| a.first_key.cmp(&b.first_key));
         let Some(seed) = (0..by_key.len()).min_by_key(|&place| by_key[place].number) else { return Ok(()) };
         let mut batch = &by_key[seed..by_key.len().min(seed + MAX_ADAPTIVE_BATCH)];
@@ -1096,10 +1162,7 @@ impl<'t> Plan<'t> {
         self.ask_for(CandidateKind::LevelBatch { level, batch_len: batch.len() }, batch, &met, &[entry], &mut found)?;
         found.retain(|c| c.kind != CandidateKind::TrivialMove { level });
         out.append(&mut found);
-        let asked = self.ask(free(&by_key, below).into_iter(), NEVER, &[entry], &mut found);
-        if !self.mending {
-            asked?;
-        }
+        self.ask(free(&by_key, below).into_iter(), NEVER, &[entry], &mut found)?;
         found.retain(|c| c.kind == CandidateKind::TrivialMove { level });
         out.append(&mut found);
         Ok(())
@@ -1124,7 +1187,8 @@ fn free<'t>(by_key: &[&'t TableInfo], mut below: Vec<&TableInfo>) -> Vec<&'t Tab
     free
 }
 
-/// Past 1,024 tables or 16 entries the library is asked level by level, which changes no answer. Refused with 4 for a merge of over 1,024 tables,
+/// Past 1,024 tables or 16 entries the library is asked level by level, and a level that is too crowded in parts (`LevelSplit`), which changes no
+/// answer. Refused with 4 for a merge of over 1,024 tables,
 /// with 5 for a size above 2^40, with 6 for an over-budget level of 2^32 - 1.
 pub(crate) fn try_generate_candidates(
     tables: &[TableInfo],
@@ -1132,10 +1196,10 @@ pub(crate) fn try_generate_candidates(
     over_budget_levels: &[(u32, u64)],
     _next_file_number: u64,
 ) -> Result<Vec<Candidate>, Refusal> {
-    Plan { tables, l0_compaction_trigger, ranks: None, mending: false }.candidates(over_budget_levels)
+    Plan { tables, l0_compaction_trigger, ranks: None, mending: false, splits: Cell::new(0) }.candidates(over_budget_levels)
 }
 
-/// Falls back by `LevelLeftOut`, `SizesRanked`, `LevelInPart` and `BuiltHere`: wherever the original has candidates for a level this has some of
+/// Falls back by `LevelLeftOut`, `SizesRanked`, `LevelSplit`, `LevelInPart` and `BuiltHere`: wherever the original has candidates for a level this has some of
 /// them.
 pub(crate) fn generate_candidates(
     tables: &[TableInfo],
@@ -1149,11 +1213,6 @@ pub(crate) fn generate_candidates(
 
 #[cold]
 fn generate_mended(tables: &[TableInfo], l0_compaction_trigger: usize, over_budget_levels: &[(u32, u64)]) -> Vec<Candidate> {
-    let mut over = over_budget_levels.to_vec();
-    over.retain(|&(level, _)| level != u32::MAX);
-    for _ in over.len()..over_budget_levels.len() {
-        OF_PLANS.note(Fallback::LevelLeftOut, BAD_LEVEL);
-    }
     let mut ranks = None;
     if tables.iter().any(|t| t.size > MOST_SIZE) {
         OF_PLANS.note(Fallback::SizesRanked, BAD_RECORD);
@@ -1161,7 +1220,7 @@ fn generate_mended(tables: &[TableInfo], l0_compaction_trigger: usize, over_budg
         sizes.sort();
         ranks = Some(sizes);
     }
-    Plan { tables, l0_compaction_trigger, ranks, mending: true }.candidates(&over).unwrap_or_default()
+    Plan { tables, l0_compaction_trigger, ranks, mending: true, splits: Cell::new(0) }.mended(over_budget_levels)
 }
 
 // ---- estimates

@@ -118,6 +118,8 @@ fn batch_not_recorded(d: &mut Dice) {
     let length = MOST_COUNT as usize + d.below(1 << 40) as usize;
     counting(&mut pair, &[Fallback::NotRecorded], 2, |g| _ = dropin::call(g, Call::Chosen((2, 1, length))));
     pair.look(&"a batch that isn't recorded");
+    same("the refusal of try_record_candidate_chosen", pair.module.try_record_candidate_chosen(dropin::kind_of((2, 1, length))), Err(Refusal(2)));
+    pair.look(&"a batch that is refused");
     pair.call(Call::Chosen((2, 3, 1 + d.below(8) as usize)));
 }
 
@@ -280,7 +282,8 @@ fn crowded(d: &mut Dice) {
     let (found, want) = plan.generated(&sides);
     // of `many` tables that each overlap all below: batches in part if one fits and not all, one made here if not even one does
     let (part, built) = (many > 1 && many + below > 1024, 1 + below > 1024);
-    let of: Vec<Fallback> = [(part, Fallback::LevelInPart), (built, Fallback::BuiltHere)].iter().filter(|f| f.0).map(|f| f.1).collect();
+    let counted = [(part || built, Fallback::LevelSplit), (part, Fallback::LevelInPart), (built, Fallback::BuiltHere)];
+    let of: Vec<Fallback> = counted.iter().filter(|f| f.0).map(|f| f.1).collect();
     if of.is_empty() {
         same_list("all batches", &found, &want);
         return;

@@ -164,13 +164,25 @@ pub fn held(plan: &Plan, module: &[Found], original: &[Found]) -> bool {
     original.iter().any(|f| f.numbers.len() > MOST)
 }
 
+/// The entries whose level is too crowded, with what it overlaps below, for one question.
+fn crowded(plan: &Plan) -> u64 {
+    let too_many = |level: u32| {
+        let all: Vec<&Table> = plan.tables.iter().filter(|t| t.level == level).collect();
+        !all.is_empty() && all.len() + met(&plan.tables, level + 1, &all).len() > MOST
+    };
+    plan.over.iter().filter(|&&(level, _)| too_many(level)).count() as u64
+}
+
 fn compared(d: &mut Dice, plan: &Plan) -> u64 {
     let sides = plan.sides();
+    let split = || dropin::fallbacks().count(dropin::Fallback::LevelSplit);
+    let (split_before, crowded) = (split(), crowded(plan));
     let count = || [dropin::Fallback::LevelInPart, dropin::Fallback::BuiltHere].map(|f| dropin::fallbacks().count(f)).iter().sum::<u64>();
     let before = count();
     let (found, original) = plan.generated(&sides);
     let left_out = held(plan, &found, &original);
     same("whether a level in part is counted", count() > before, left_out);
+    same("how many levels were asked for in parts", split() - split_before, crowded);
     let tried = dropin::try_generate_candidates(&sides.module, plan.trigger, &plan.over, plan.next);
     same("the refusal of try_generate_candidates", tried.err(), left_out.then_some(dropin::Refusal(4)));
     chosen(d, plan, &sides, &found)

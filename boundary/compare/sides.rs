@@ -109,7 +109,7 @@ macro_rules! side {
                 shared::<GovernorState>()
             };
 
-            fn kind_of((kind, level, batch_len): Kind) -> CandidateKind {
+            pub fn kind_of((kind, level, batch_len): Kind) -> CandidateKind {
                 match kind {
                     1 => CandidateKind::L0,
                     2 => CandidateKind::LevelBatch { level, batch_len },

@@ -104,11 +104,14 @@ static bool governed(const char *name) {
     } else if (!strcmp(name, "fresh")) {
         coinhamper_fresh(state, STATE_WORDS, N(0));
         state_out();
-    } else if (!strcmp(name, "mode") || !strcmp(name, "pressure") || !strcmp(name, "pressure_vector") || !strcmp(name, "focus")) {
+    } else if (!strcmp(name, "mode")) {
+        state_in(0);
+        if (coinhamper_mode(state, STATE_WORDS, &n) == 0) number(n);
+    } else if (!strcmp(name, "pressure") || !strcmp(name, "pressure_vector") || !strcmp(name, "focus")) {
         state_in(0);
         coinhamper_read(state, STATE_WORDS, out, 8);
-        size_t from = name[0] == 'm' ? 0 : name[0] == 'f' ? 5 : name[8] ? 2 : 1;
-        for (size_t i = 0; i < (from < 2 ? 1 : 3); i++) number(out[from + i]);
+        size_t from = name[0] == 'f' ? 5 : name[8] ? 2 : 1;
+        for (size_t i = 0; i < (from == 1 ? 1 : 3); i++) number(out[from + i]);
     } else if (!strcmp(name, "set_focus")) {
         state_in(0);
         if (coinhamper_set_focus(state, STATE_WORDS, N(1), (uint32_t)N(2), (uint32_t)N(3)) == 0) state_out();

@@ -126,6 +126,15 @@ void try_read(void) {
     left(out, r ? 0 : 64);
 }
 
+void try_mode(void) {
+    struct lent *state = lend_state(false), *mode = lend_room(8);
+    lent_keep();
+    uint64_t r = coinhamper_mode(WORDS(state), mode->at);
+    judge(r, is_state(state->fill, state->bytes / 8) ? 0 : 100);
+    left(mode, r ? 0 : 8);
+    if (r == 0) WANT(FILL(mode)[0] == FILL(state)[1]);
+}
+
 void try_snapshot(void) {
     struct lent *state = lend_state(false), *out = lend_room(8 * odd_room(14));
     uint64_t clock = odd_number();
@@ -176,6 +185,7 @@ void state_run(unsigned long calls) {
         accepted += r == 0;
         switches += state[1] != mode;
         WANT(r != 1 && r != 100 && is_state(state, STATE_WORDS) && coinhamper_read(state, STATE_WORDS, out, 8) == 0);
+        WANT(coinhamper_mode(state, STATE_WORDS, &mode) == 0 && mode == out[0]);
     }
     printf("run: %lu calls on one state, %llu accepted, %llu switches\n", calls, (unsigned long long)accepted, (unsigned long long)switches);
     WANT(accepted > 0);

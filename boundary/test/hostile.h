@@ -4,7 +4,7 @@
 #include "lent.h"
 #include "rules.h"
 
-/* Name; the refusals that it may give, each of which must come up, none for a call that answers a number; how often it is tried, of a thousand times. */
+/* Name; the refusals that it may give, each of which must come up, none for a call that answers a number; how often it is tried, beside the others. */
 #define EXPORTS \
     EXPORT(version, "", 2) \
     EXPORT(state_words, "", 2) \
@@ -16,6 +16,7 @@
     EXPORT(record_outcome, "0 2 3 100", 50) \
     EXPORT(set_focus, "0 100 101", 30) \
     EXPORT(read, "0 9 100", 30) \
+    EXPORT(mode, "0 100", 20) \
     EXPORT(snapshot, "0 2 3 9 100", 60) \
     EXPORT(pacing_delay, "0 101", 20) \
     EXPORT(dominant, "", 20) \

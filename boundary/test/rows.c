@@ -110,6 +110,7 @@ static void figures(void) {
     keep();
     WANT(coinhamper_read(state, STATE_WORDS, out, COINHAMPER_READING_WORDS - 1) == 9 && out[0] == FILLED);
     WANT(coinhamper_read(state, STATE_WORDS, out, 15) == 0 && !memcmp(out, reading, sizeof reading) && out[8] == FILLED);
+    WANT(coinhamper_mode(state, STATE_WORDS, out + 9) == 0 && out[9] == 2 && out[10] == FILLED);
     memset(out, 0xee, sizeof out);
     WANT(coinhamper_snapshot(state, STATE_WORDS, 3500000, out, COINHAMPER_SNAPSHOT_WORDS - 1) == 9 && out[0] == FILLED);
     WANT(coinhamper_snapshot(state, STATE_WORDS, 3500000, out, 15) == 0 && !memcmp(out, stats, sizeof stats) && out[14] == FILLED);
@@ -148,6 +149,7 @@ static void no_states(void) {
         WANT(coinhamper_record_candidate_chosen(state, STATE_WORDS, 9, 0, 0) == 100 && coinhamper_record_trivial_move(state, STATE_WORDS, 0) == 100);
         WANT(coinhamper_record_outcome(state, STATE_WORDS, TOP53 + 1, 0) == 100 && coinhamper_set_focus(state, STATE_WORDS, 5, 0, 0) == 100);
         WANT(coinhamper_read(state, STATE_WORDS, out, 0) == 100 && coinhamper_snapshot(state, STATE_WORDS, 9, out, 0) == 100);
+        WANT(coinhamper_mode(state, STATE_WORDS, out) == 100);
         WANT(kept() && out[0] == FILLED);
     }
     uint64_t longer[STATE_WORDS + 1] = {0};
