@@ -749,7 +749,8 @@ impl GovernorState {
         u64::try_from(self.began.elapsed().as_nanos()).unwrap_or(u64::MAX)
     }
 
-    /// Mode, pressure, the vector's three, focus flag, level and streak.
+    /// Mode, pressure, the vector's three, focus flag, level and streak. Zeros if the words are refused, which only something else's writing to them
+    /// can bring about.
     fn reading(&self) -> [u64; 8] {
         let mut words = [0; 8];
         self.recorded(library::read(&self.state, &mut words));

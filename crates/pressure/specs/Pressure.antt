@@ -21,11 +21,11 @@ backlogNormalization = ofBits binary64 0x4008000000000000
 abbrev pub shareOf : Float → Float → Float
 shareOf x limit = minimumOf (div binary64 x limit) f1
 
--- the smoothed probe count is given: it is the new one
-unfoldable pub componentsOf : Tuning → PressureSample → Float → Components
-componentsOf G p probed =
+-- the L0 fraction is given, and the smoothed probe count: it is the new one
+unfoldable pub componentsOf : Tuning → PressureSample → Float → Float → Components
+componentsOf G p fraction probed =
     record {
-      l0 = shareOf (fractionOf p) (G .enterFraction);
+      l0 = shareOf fraction (G .enterFraction);
       debt = shareOf (p .«max_level_debt_ratio») (G .enterRatio);
       backlog = shareOf (floatOf (p .«backlog_levels»)) backlogNormalization;
       read = shareOf probed (G .enterProbed);
@@ -52,4 +52,4 @@ abbrev pub probedOf : Signals → PressureSample → Float
 probedOf g p = smoothedOf (g .«tables_probed_ewma») (p .«tables_probed_per_get»)
 
 unfoldable pub signalsOf : Tuning → Signals → PressureSample → Signals
-signalsOf G g p = blendedOf g (probedOf g p) (componentsOf G p (probedOf g p))
+signalsOf G g p = blendedOf g (probedOf g p) (componentsOf G p (fractionOf p) (probedOf g p))

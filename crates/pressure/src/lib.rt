@@ -56,8 +56,7 @@ fn share(x: f64, limit: f64) -> f64
 
 // Whoever decides on the mode has the L0 fraction already, so it is given.
 pub fn components_of(p: PressureSample, fraction: f64, probed: f64) -> Components
-    requires { ⌜ fraction ≡ fractionOf p ⌝ }
-    ensures { λ r. ⌜ r ≡ componentsOf source p probed ⌝ }
+    ensures { λ r. ⌜ r ≡ componentsOf source p fraction probed ⌝ }
 {
     Components {
         l0: share(fraction, WRITE_EMERGENCY_ENTER_L0_FRACTION),

@@ -7,7 +7,7 @@ use Rattle.observe_words.proofs.signals_after.Tie as tie
 
 returns : tie.Need-returns
 unfolding stateFrom signalsIn signalsOf blendedOf
-returns c = rw (c .before .components-of .ensures, c .before .before .smoothed .ensures, c .before .before .before .of-bits3 .ensures, c .before .before .before .before .before .of-bits2 .ensures, c .before .before .before .before .before .before .before .of-bits .ensures) at (c .blended .ensures)
+returns c = rw (c .before .components-of .ensures, c .before .before .before .before .before .before .before .before .before .before .pre .1, c .before .before .smoothed .ensures, c .before .before .before .of-bits3 .ensures, c .before .before .before .before .before .of-bits2 .ensures, c .before .before .before .before .before .before .before .of-bits .ensures) at (c .blended .ensures)
 
 pub signals-after-spec : {M : Type 1} → statement M
 signals-after-spec =
@@ -20,6 +20,6 @@ signals-after-spec =
     (λ c. search needs)
     (λ c κs. tt)
     (λ c κs. tt)
-    (λ c κs. c .before .before .before .before .before .before .before .before .pre .1)
+    (λ c κs. tt)
     (λ c κs. tt)
     returns)

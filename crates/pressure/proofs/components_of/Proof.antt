@@ -5,7 +5,7 @@ use Rattle.pressure.proofs.components_of.Tie as tie
 
 returns : tie.Need-returns
 unfolding componentsOf
-returns c = simp (c .share4 .ensures, c .before .share3 .ensures, c .before .before .of-u64 .ensures, c .before .before .before .share2 .ensures, c .before .before .before .before .share .ensures, c .before .before .before .before .before .pre)
+returns c = simp (c .share4 .ensures, c .before .share3 .ensures, c .before .before .of-u64 .ensures, c .before .before .before .share2 .ensures, c .before .before .before .before .share .ensures)
 
 pub components-of-spec : {M : Type 1} → statement M
 components-of-spec =
