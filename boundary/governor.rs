@@ -780,7 +780,7 @@ impl GovernorState {
         FocusState::of(&self.reading()[5..])
     }
 
-    /// Refused for no focus.
+    /// Takes any focus.
     pub(crate) fn try_set_focus(&mut self, focus: FocusState) -> Result<(), Refusal> {
         library::set_focus(&mut self.state, focus)
     }
@@ -790,7 +790,7 @@ impl GovernorState {
         self.recorded(result);
     }
 
-    /// Refused for no decision.
+    /// Takes any decision.
     pub(crate) fn try_record_decision(&mut self, decision: SchedulingDecision) -> Result<(), Refusal> {
         if self.log_words.is_empty() {
             self.log_words = vec![0; LOG_WORDS].into();
@@ -1189,8 +1189,7 @@ fn free<'t>(by_key: &[&'t TableInfo], mut below: Vec<&TableInfo>) -> Vec<&'t Tab
 }
 
 /// Past 1,024 tables or 16 entries the library is asked level by level, and a level that is too crowded in parts (`LevelSplit`), which changes no
-/// answer. Refused with 4 for a merge of over 1,024 tables,
-/// with 5 for a size above 2^40, with 6 for an over-budget level of 2^32 - 1.
+/// answer. Refused with 4 for a merge of over 1,024 tables, with 5 for a size above 2^40, with 6 for an over-budget level of 2^32 - 1.
 pub(crate) fn try_generate_candidates(
     tables: &[TableInfo],
     l0_compaction_trigger: usize,
@@ -1200,8 +1199,8 @@ pub(crate) fn try_generate_candidates(
     Plan { tables, l0_compaction_trigger, ranks: None, mending: false, splits: Cell::new(0) }.candidates(over_budget_levels)
 }
 
-/// Falls back by `LevelLeftOut`, `SizesRanked`, `LevelSplit`, `LevelInPart` and `BuiltHere`: wherever the original has candidates for a level this has some of
-/// them.
+/// Falls back by `LevelLeftOut`, `SizesRanked`, `LevelSplit`, `LevelInPart` and `BuiltHere`: wherever the original has candidates for a level this
+/// has some of them.
 pub(crate) fn generate_candidates(
     tables: &[TableInfo],
     l0_compaction_trigger: usize,
