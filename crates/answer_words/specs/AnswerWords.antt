@@ -5,17 +5,18 @@ use Prim.Native.Nat.{ℕ}
 use mathlib.Core.Bool.{cond}
 use mathlib.Core.List.{List, [], _∷_, _++_}
 use lib.ListN.{getD, replicate}
-use lib.Dec.{ltb, eqb}
-use lib.Ieee.{binary64, ofBits, toBits}
+use lib.Dec.{leb, ltb, eqb}
+use lib.Ieee.{Float, binary64, ofBits, toBits}
 use Rattle.refusals.specs.Refusals.{none, noRoom}
 use Rattle.kinds.specs.declared.winner.Winner.{Winner}
 use Rattle.kinds.specs.Numbers.{modeNumber, tierNumber, focusNumbers, winnerNumbers}
 use Rattle.state.specs.declared.GovernorState.{GovernorState}
 use Rattle.snapshot.specs.declared.SnapshotAnswer.{SnapshotAnswer}
 use Rattle.snapshot.specs.declared.SnapshotAnswer.the-variants.{Stats, Refused}
+use Rattle.pressure.specs.Pacing.{pacingOf}
 use Rattle.snapshot.specs.Snapshot.{figures}
 use Rattle.choice.specs.declared.Picked.{Picked}
-use Rattle.state_words.specs.StateWords.{focusFlag, focusLevel, isState, stateIn}
+use Rattle.state_words.specs.StateWords.{noSuchCase, modeFrom, focusFlag, focusLevel, isState, stateIn}
 
 -- the call's own refusal, then 9 where so many words have no room
 unfoldable pub answerFault : ℕ → ℕ → ℕ → ℕ
@@ -40,6 +41,13 @@ readingIn ws =
 -- the mode's number, where the words are a state
 unfoldable pub modeOr : List ℕ → ℕ → ℕ
 modeOr ws old = cond (isState ws) (modeNumber (stateIn ws .mode)) old
+
+-- the pause of a mode by its number; any other number is refused
+unfoldable pub pacingRefusal : ℕ → ℕ
+pacingRefusal mode = cond (leb mode 2) none noSuchCase
+
+unfoldable pub pacingAfter : ℕ → Float → ℕ → ℕ
+pacingAfter mode pressure old = cond (leb mode 2) (pacingOf (modeFrom mode) pressure) old
 
 -- the figures of a snapshot; beside a refusal nobody gets the zeros
 unfoldable pub figuresOr : SnapshotAnswer → List ℕ

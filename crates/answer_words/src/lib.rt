@@ -1,4 +1,4 @@
-// Answers as words: what is read of a governor, its figures, a choice, a decision; and the front of a lent buffer that gets them. A refused answer writes nothing.
+// Answers as words: what is read of a governor, its figures, a pause, a choice; and the front of a lent buffer that gets them. A refused answer writes nothing.
 ghost use mathlib.Core.Path.{_≡_};
 ghost use mathlib.Core.Bool.{cond};
 ghost use lib.ListN.{length};
@@ -8,10 +8,11 @@ ghost use Rattle.refusals.specs.Written.{writtenOut};
 ghost use Rattle.snapshot.specs.Snapshot.{figures, snapshotRefusal};
 ghost use lib.Ieee.{binary64, ofBits, toBits};
 ghost use Rattle.state_words.specs.StateWords.{stateIn, gated};
-ghost use Rattle.answer_words.specs.AnswerWords.{answerFault, readingWords, readingIn, modeOr, figuresOr, winnerFlag, winnerPlace, pickedWords};
+ghost use Rattle.answer_words.specs.AnswerWords.{answerFault, readingWords, readingIn, modeOr, pacingRefusal, pacingAfter, figuresOr, winnerFlag, winnerPlace, pickedWords};
 use arith::floats;
 use choice::Picked;
 use kinds::winner::Winner;
+use pressure::pacing;
 use snapshot::GovernorStats;
 use snapshot::SnapshotAnswer;
 use state::GovernorState;
@@ -86,6 +87,18 @@ pub fn tell_mode(mode: &mut u64, words: &[u64]) -> u64
         return state_words::NOT_A_STATE;
     }
     *mode = words[1];
+    refusals::NONE
+}
+
+// The pause in nanoseconds. Modes are 0 Balanced, 1 ReadProtect, 2 WriteEmergency.
+pub fn tell_delay(nanos: &mut u64, mode: u64, pressure: f64) -> u64
+    ensures { λ r. ⌜ r ≡ pacingRefusal mode ⌝ }
+    ensures { λ _. ⌜ now (nanos .exit) ≡ pacingAfter mode pressure (now (nanos .entry)) ⌝ }
+{
+    if 2 < mode {
+        return state_words::NO_SUCH_CASE;
+    }
+    *nanos = pacing::pacing_delay(state_words::mode_of(mode), pressure);
     refusals::NONE
 }
 

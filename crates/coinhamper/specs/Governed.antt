@@ -3,21 +3,20 @@ use Prim.Native.Nat.{ℕ}
 use mathlib.Core.Bool.{cond}
 use mathlib.Core.List.{List}
 use lib.ListN.{length}
-use lib.Dec.{leb, eqb}
+use lib.Dec.{eqb}
 use lib.Ieee.{Float}
 use Rattle.refusals.specs.Refusals.{none}
 use Rattle.kinds.specs.declared.kind.CandidateKind.{CandidateKind}
 use Rattle.kinds.specs.declared.kind.CandidateKind.the-variants.{L0, LevelBatch, TrivialMove}
 use Rattle.kinds.specs.declared.vector.PressureVector.{PressureVector}
 use Rattle.pressure.specs.declared.PressureSample.{PressureSample}
-use Rattle.pressure.specs.Pacing.{pacingOf}
 use Rattle.state.specs.declared.GovernorState.{GovernorState}
 use Rattle.state.specs.declared.Observed.{Observed}
 use Rattle.state.specs.State.{freshOf, focusedOf, answered}
 use Rattle.report.specs.Counters.{chosenOf}
 use Rattle.windows.specs.declared.EngineSample.{EngineSample}
 use Rattle.windows.specs.declared.ReadAmpStats.{ReadAmpStats}
-use Rattle.state_words.specs.StateWords.{notAState, noSuchCase, modeFrom, focusGood, focusFrom, stateWords}
+use Rattle.state_words.specs.StateWords.{notAState, noSuchCase, focusGood, focusFrom, stateWords}
 
 -- ---- numbers as what they are to the calls below
 
@@ -44,7 +43,7 @@ freshRefusal ws = cond (eqb (length ws) 28) none notAState
 unfoldable pub freshAfter : List ℕ → ℕ → List ℕ
 freshAfter ws clock = cond (eqb (length ws) 28) (stateWords (freshOf clock)) ws
 
--- ---- a kind, a focus, a mode by their numbers; any other number is refused, and nothing changes
+-- ---- a kind, a focus by their numbers; any other number is refused, and nothing changes
 
 -- a chosen kind is 1 L0, 2 a batch, 3 a move
 unfoldable pub chosenBy : GovernorState → ℕ → ℕ → ℕ → Observed
@@ -57,9 +56,3 @@ chosenBy s kind level n =
 unfoldable pub focusedBy : GovernorState → ℕ → ℕ → ℕ → Observed
 focusedBy s flag level streak =
     cond (focusGood flag level) (answered none s (focusedOf s (focusFrom flag level streak))) (answered noSuchCase s s)
-
-unfoldable pub pacingRefusal : ℕ → ℕ
-pacingRefusal mode = cond (leb mode 2) none noSuchCase
-
-unfoldable pub pacingAfter : ℕ → Float → ℕ → ℕ
-pacingAfter mode pressure old = cond (leb mode 2) (pacingOf (modeFrom mode) pressure) old

@@ -1,4 +1,3 @@
 -- The calls for C and Rust.
 pub mod Governed
 pub mod Merges
-pub mod Logged

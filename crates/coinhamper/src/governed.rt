@@ -12,13 +12,12 @@ ghost use Rattle.report.specs.Counters.{trivialMoveOf, outcomeOf};
 ghost use Rattle.snapshot.specs.Snapshot.{snapshotOf, snapshotRefusal};
 ghost use Rattle.state.specs.State.{answered};
 ghost use Rattle.state_words.specs.StateWords.{noSuchCase, stateIn, gated, refusalOf, wordsAfter};
-ghost use Rattle.answer_words.specs.AnswerWords.{answerFault, readingWords, modeOr, figuresOr};
-ghost use Rattle.coinhamper.specs.Governed.{vectorOf, sampleOf, engineSampleOf, readAmpOf, freshRefusal, freshAfter, chosenBy, focusedBy, pacingRefusal, pacingAfter};
+ghost use Rattle.answer_words.specs.AnswerWords.{answerFault, readingWords, modeOr, pacingRefusal, pacingAfter, figuresOr};
+ghost use Rattle.coinhamper.specs.Governed.{vectorOf, sampleOf, engineSampleOf, readAmpOf, freshRefusal, freshAfter, chosenBy, focusedBy};
 use answer_words::answer;
 use kinds::kind::CandidateKind;
 use kinds::vector::PressureVector;
 use pressure::PressureSample;
-use pressure::pacing;
 use state::GovernorState;
 use state::Observed;
 use state_words::NO_SUCH_CASE;
@@ -28,7 +27,6 @@ use state_words::focus_good;
 use state_words::focus_of;
 use state_words::gate;
 use state_words::keep;
-use state_words::mode_of;
 use state_words::state_in;
 use windows::EngineSample;
 use windows::ReadAmpStats;
@@ -231,11 +229,7 @@ pub extern "C" fn coinhamper_pacing_delay(mode: u64, pressure: f64, nanos: &mut 
     ensures { λ r. ⌜ r ≡ pacingRefusal mode ⌝ }
     ensures { λ _. ⌜ now (nanos .exit) ≡ pacingAfter mode pressure (now (nanos .entry)) ⌝ }
 {
-    if 2 < mode {
-        return NO_SUCH_CASE;
-    }
-    *nanos = pacing::pacing_delay(mode_of(mode), pressure);
-    refusals::NONE
+    answer_words::tell_delay(nanos, mode, pressure)
 }
 
 // Answers a number: 0 none, 1 L0, 2 deep debt, 3 reads.

@@ -10,37 +10,10 @@ ghost use Rattle.recent.specs.Recent.{recentFault, recentOut};
 ghost use Rattle.fits.specs.File.{lengthOf, fitsWritten, fitsOut};
 ghost use Rattle.log_text.specs.Text.{reportedOf, reportOut};
 ghost use Rattle.replay_lines.specs.Replay.{replayedOf, replayOut};
-ghost use Rattle.coinhamper.specs.Logged.{headOf, threeWords, recordRefusal, recordHead, recordWords, readRefusal, readHead, readWords, placeOf};
+ghost use Rattle.log_words.specs.LogWords.{headOf, recordRefusal, recordHead, recordWords, readRefusal, readHead, readWords, placeOf};
 use answer_words::tell;
-use decisions::DecisionRead;
 use log::DecisionLog;
-
-// Not three words are no log, as a first place past all of them says to the calls below.
-fn head_in(head: &[u64]) -> DecisionLog
-    ensures { λ r. ⌜ r ≡ headOf (now (head .entry)) ⌝ }
-{
-    if head.len() == 3 {
-        return DecisionLog {
-            first: head[0],
-            count: head[1],
-            sequence: head[2],
-        };
-    }
-    DecisionLog {
-        first: 0xffff_ffff_ffff_ffff,
-        count: 0,
-        sequence: 0,
-    }
-}
-
-fn put_head(head: &mut [u64], g: DecisionLog)
-    requires { ⌜ length (now head) ≡ 3 ⌝ }
-    ensures { λ _. ⌜ now (head .exit) ≡ threeWords g ⌝ }
-{
-    head[0] = g.first;
-    head[1] = g.count;
-    head[2] = g.sequence;
-}
+use log_words::head_in;
 
 // Answers a number: 1 where the words are a decision, 0 where they are none.
 #[no_mangle]
@@ -77,16 +50,7 @@ pub extern "C" fn coinhamper_record_decision(
     ensures { λ _. ⌜ now (head .exit) ≡ recordHead (now (head .entry)) (length (now (words .entry))) (now (decision .entry)) ⌝ }
     ensures { λ _. ⌜ now (words .exit) ≡ recordWords (now (head .entry)) (now (words .entry)) (now (decision .entry)) ⌝ }
 {
-    let g = head_in(&*head);
-    if log::log_bad(g, words.len()) {
-        return refusals::BAD_LOG;
-    }
-    let DecisionRead::Decision(d) = decisions::of_words(decision) else {
-        return refusals::BAD_RECORD;
-    };
-    let r = recording::record_decision(g, words, d);
-    put_head(head, r.log);
-    refusals::NONE
+    log_words::record_decision(head, words, decision)
 }
 
 // Fourteen words to each kept decision, oldest first.
@@ -131,15 +95,7 @@ pub extern "C" fn coinhamper_read_log(text: &[u8], head: &mut [u64], words: &mut
     ensures { λ _. ⌜ now (head .exit) ≡ readHead (now (text .entry)) (now (head .entry)) (length (now (words .entry))) ⌝ }
     ensures { λ _. ⌜ now (words .exit) ≡ readWords (now (text .entry)) (now (head .entry)) (now (words .entry)) ⌝ }
 {
-    if head.len() != 3 {
-        return refusals::BAD_LOG;
-    }
-    let t = log_text::read_log(text, words);
-    if t.refusal != refusals::NONE {
-        return t.refusal;
-    }
-    put_head(head, t.log);
-    refusals::NONE
+    log_words::read_log(text, head, words)
 }
 
 // The refused lines of such a text: number, comma, refusal, LF.

@@ -9,20 +9,12 @@ ghost use Rattle.scores.specs.Score.{scoreOf};
 ghost use Rattle.candidates.specs.Generate.{generateInput};
 ghost use Rattle.trace.specs.Trace.{decisionOf};
 ghost use Rattle.answer_words.specs.AnswerWords.{answerFault, pickedWords};
+ghost use Rattle.choice_words.specs.ChoiceWords.{pickedBy, pickRefusal, isPicked, caseFault, pickedIn};
 ghost use Rattle.coinhamper.specs.Governed.{vectorOf};
-ghost use Rattle.coinhamper.specs.Merges.{Generation, estimateWith, pickedBy, pickRefusal, isPicked, caseFault, pickedIn};
-use answer_words::answer;
+ghost use Rattle.coinhamper.specs.Merges.{Generation, estimateWith};
 use answer_words::tell;
 use candidate_records::CandidateEstimate;
-use choice::Picked;
-use kinds::focus::FocusLevel;
-use kinds::focus::FocusState;
-use kinds::tier::SelectionTier;
 use kinds::vector::PressureVector;
-use kinds::winner::Winner;
-use state_words::NO_SUCH_CASE;
-use state_words::focus_good;
-use state_words::focus_of;
 
 // Six words to a candidate; both counts are written beside a 0 only.
 #[no_mangle]
@@ -107,15 +99,6 @@ pub extern "C" fn coinhamper_cause_aware_score(
     scores::cause_aware_score(vector, est)
 }
 
-fn case_fault(good: bool, refusal: u64) -> u64
-    ensures { λ r. ⌜ r ≡ caseFault good refusal ⌝ }
-{
-    if good {
-        return refusal;
-    }
-    NO_SUCH_CASE
-}
-
 // Six words: 1 and the winner's place or 0 and 0; focus flag, level, streak; tier. A focus is given as it is answered.
 #[no_mangle]
 pub extern "C" fn coinhamper_pick_best_cause_aware(
@@ -137,53 +120,15 @@ pub extern "C" fn coinhamper_pick_best_cause_aware(
         deep_debt,
         read,
     };
-    let focus = focus_of(focus_flag, focus_level, focus_streak);
-    let p = choice::pick_best_cause_aware(vector, focus, candidates, estimates);
-    let refusal = case_fault(focus_good(focus_flag, focus_level as u64), p.refusal);
-    let six = answer_words::picked_words(p);
-    answer(picked, refusal, &six)
-}
-
-fn is_picked(words: &[u64]) -> bool
-    ensures { λ r. ⌜ r ≡ isPicked (now (words .entry)) ⌝ }
-{
-    if words.len() != 6 {
-        return false;
-    }
-    (words[0] <= 1) & (words[5] <= 3)
-}
-
-// Of a choice the decision has only the winner and the tier.
-fn picked_in(words: &[u64]) -> Picked
-    ensures { λ r. ⌜ r ≡ pickedIn (now (words .entry)) ⌝ }
-{
-    let focus = FocusState {
-        current_focus: FocusLevel::None,
-        streak: 0,
-    };
-    if is_picked(words) {
-        let tier = decisions::tier_of(words[5]);
-        if words[0] == 1 {
-            return Picked {
-                refusal: refusals::NONE,
-                winner: Winner::At(words[1] as usize),
-                focus,
-                tier,
-            };
-        }
-        return Picked {
-            refusal: refusals::NONE,
-            winner: Winner::None,
-            focus,
-            tier,
-        };
-    }
-    Picked {
-        refusal: refusals::NONE,
-        winner: Winner::None,
-        focus,
-        tier: SelectionTier::None,
-    }
+    choice_words::pick_best_cause_aware(
+        vector,
+        focus_flag,
+        focus_level,
+        focus_streak,
+        candidates,
+        estimates,
+        picked,
+    )
 }
 
 // Fourteen words, from the vector, the six words of a choice, and the words that it was made of.
@@ -205,11 +150,5 @@ pub extern "C" fn coinhamper_scheduling_decision(
         deep_debt,
         read,
     };
-    let d = trace::scheduling_decision(vector, picked_in(picked), candidates, estimates);
-    let fourteen = decisions::to_words(d);
-    answer(
-        decision,
-        case_fault(is_picked(picked), refusals::NONE),
-        &fourteen,
-    )
+    choice_words::scheduling_decision(vector, picked, candidates, estimates, decision)
 }

@@ -1,16 +1,15 @@
--- What the calls below say of generation and of a choice's words, in the boundary's words.
+-- What the call below says of generation, in the boundary's words.
 use mathlib.Core.Path.{_≡_, refl, sym, _∙_}
 use Prim.Native.Nat.{ℕ}
-use mathlib.Core.Bool.{Bool, true, false, cond, _&&_}
+use mathlib.Core.Bool.{Bool, true, false, cond}
 use mathlib.Core.List.{List}
-use lib.ListN.{length, getD}
-use lib.Dec.{leb, eqb}
+use lib.ListN.{length}
+use lib.Dec.{eqb}
 use borrow.Author.Tests.{eqb-true}
 use Rattle.refusals.specs.Refusals.{none}
 use Rattle.candidates.specs.declared.Generated.{Generated}
 use Rattle.candidates.specs.Generate.{GenerateInput, generateFault, generatedOf, madeOf, numberWords, Answered}
-use Rattle.state_words.specs.StateWords.Sound.{both}
-use Rattle.coinhamper.specs.Merges.{Generation, isPicked}
+use Rattle.coinhamper.specs.Merges.{Generation}
 
 -- a generation's number and counts, which are its answer's where it is accepted
 abbrev Says : GenerateInput → ℕ → Generated → Type 0
@@ -38,7 +37,3 @@ generation q c₀ c₁ n₀ n₁ k₀ k₁ m₀ m₁ r s g a p t =
       candidateCount = rw e (p .1 ∙ f .1 k₀);
       numberCount = rw e (t .1 ∙ f .2 m₀);
     }
-
-pub picked-long : (ws : List ℕ) → isPicked ws ≡ true → length ws ≡ 6
-unfolding isPicked
-picked-long ws e = eqb-true _ _ (both {a = eqb (length ws) 6} e .0)

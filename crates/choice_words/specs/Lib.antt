@@ -1,0 +1,2 @@
+-- The choice on lent words.
+pub mod ChoiceWords

@@ -1,0 +1,2 @@
+-- A log beside its head.
+pub mod LogWords
