@@ -3,13 +3,13 @@ pub mod Told
 pub mod Reading
 use Prim.Native.Nat.{ℕ}
 use mathlib.Core.Bool.{cond}
-use mathlib.Core.List.{List, [], _∷_, _++_}
+use mathlib.Core.List.{List, [], _∷_}
 use lib.ListN.{getD, replicate}
 use lib.Dec.{leb, ltb, eqb}
 use lib.Ieee.{Float, binary64, ofBits, toBits}
 use Rattle.refusals.specs.Refusals.{none, noRoom}
 use Rattle.kinds.specs.declared.winner.Winner.{Winner}
-use Rattle.kinds.specs.Numbers.{modeNumber, tierNumber, focusNumbers, winnerNumbers}
+use Rattle.kinds.specs.Numbers.{modeNumber, tierNumber, winnerNumbers}
 use Rattle.state.specs.declared.GovernorState.{GovernorState}
 use Rattle.snapshot.specs.declared.SnapshotAnswer.{SnapshotAnswer}
 use Rattle.snapshot.specs.declared.SnapshotAnswer.the-variants.{Stats, Refused}

@@ -15,7 +15,6 @@ use kinds::winner::Winner;
 use pressure::pacing;
 use snapshot::GovernorStats;
 use snapshot::SnapshotAnswer;
-use state::GovernorState;
 use state_words::focus_words;
 use state_words::is_state;
 

@@ -6,7 +6,6 @@ use lib.ListN.{length}
 use lib.Dec.{eqb}
 use lib.Ieee.{Float}
 use Rattle.refusals.specs.Refusals.{none}
-use Rattle.kinds.specs.declared.kind.CandidateKind.{CandidateKind}
 use Rattle.kinds.specs.declared.kind.CandidateKind.the-variants.{L0, LevelBatch, TrivialMove}
 use Rattle.kinds.specs.declared.vector.PressureVector.{PressureVector}
 use Rattle.pressure.specs.declared.PressureSample.{PressureSample}

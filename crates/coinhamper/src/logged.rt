@@ -5,7 +5,6 @@ ghost use lib.ListN.{length};
 ghost use lib.Dec.{eqb};
 ghost use Rattle.refusals.specs.Refusals.{none};
 ghost use Rattle.decisions.specs.Decision.{isDecision};
-ghost use Rattle.log.specs.Log.{keptPlace};
 ghost use Rattle.recent.specs.Recent.{recentFault, recentOut};
 ghost use Rattle.fits.specs.File.{lengthOf, fitsWritten, fitsOut};
 ghost use Rattle.log_text.specs.Text.{reportedOf, reportOut};

@@ -5,7 +5,7 @@ use mathlib.Core.Bool.{Bool, not, cond}
 use mathlib.Core.List.{List, [], _∷_}
 use lib.ListN.{length, getD}
 use lib.Dec.{eqb}
-use Rattle.refusals.specs.Refusals.{Check, _gives_, firstFault, none, badRecord, badLog}
+use Rattle.refusals.specs.Refusals.{_gives_, firstFault, none, badRecord, badLog}
 use Rattle.decisions.specs.Decision.{isDecision, decisionIn}
 use Rattle.log.specs.declared.DecisionLog.{DecisionLog}
 use Rattle.log.specs.Log.{logBad, keptPlace}

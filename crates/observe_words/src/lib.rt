@@ -2,13 +2,12 @@
 ghost use mathlib.Core.Path.{_≡_};
 ghost use mathlib.Core.Bool.{true, false, cond, _&&_};
 ghost use Prim.Native.Nat.{_+_, _-_, _^_, _<_};
-ghost use lib.ListN.{length, getD};
 ghost use Rattle.kinds.specs.Tuning.{source};
 ghost use Rattle.state.specs.State.{full};
 ghost use Rattle.pressure.specs.Pressure.{signalsOf};
 ghost use Rattle.pressure.specs.Sample.{fractionOf};
-ghost use Rattle.governor.specs.Observe.{nextOf, countersFull, switchedCount, observeFault, acceptedOf, observedOf};
-ghost use Rattle.state_words.specs.StateWords.{Good, streaksIn, timesIn, signalsIn, countersIn, stateFrom, stateIn, refusalOf, wordsAfter};
+ghost use Rattle.governor.specs.Observe.{nextOf, countersFull, observeFault, observedOf};
+ghost use Rattle.state_words.specs.StateWords.{Good, stateFrom, stateIn, refusalOf, wordsAfter};
 ghost use Rattle.observe_words.specs.ObserveWords.{fullAt, signalWords, timeWords, observedWords};
 use arith::floats;
 use kinds::mode::GovernorMode;

@@ -8,7 +8,6 @@ use lib.ListN.{length, set, getD}
 use lib.Dec.{eqb}
 use borrow.Author.Tests.{eqb-true}
 use Rattle.refusals.specs.Refusals.{none}
-use Rattle.decisions.specs.declared.SchedulingDecision.{SchedulingDecision}
 use Rattle.decisions.specs.declared.DecisionRead.{DecisionRead}
 use Rattle.decisions.specs.declared.DecisionRead.the-variants.{Decision, None as NoDecision}
 use Rattle.decisions.specs.Decision.{isDecision, decisionIn, readOf}
