@@ -302,8 +302,8 @@ pub enum Fallback {
     /// original's.
     SizesRanked,
     /// `generate_candidates` and its `try_` fellow: a level and what it overlaps below are over 1,024 tables together, so the library is asked about
-    /// its smallest-numbered table and the up to seven after it in key order, and about the eight tables that a move takes, each with the tables
-    /// below that overlap them. The answer is the original's.
+    /// its smallest-numbered table and the up to seven after it in key order, with the tables below that overlap them, and about the eight tables
+    /// that a move takes, which overlap none. The answer is the original's.
     LevelSplit,
     /// `generate_candidates`: a merge would take over 1,024 tables. Of L0 the oldest tables are offered, as many as fit with what they overlap; of
     /// another level the shorter batches.

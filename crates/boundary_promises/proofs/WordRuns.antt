@@ -109,7 +109,7 @@ module _ (ws : List ℕ) (long : length ws ≡ 28) (clock : ℕ) (l : List Actio
   unfolding readingWords
   mode-read = rw (fresh-run, back (after source (freshOf clock) l) (run-fits (freshOf clock) l (fresh-fits clock) handed))
 
-  -- and so does `coinhamper_mode`
+  -- `coinhamper_mode` answers the mode that `coinhamper_read` does
   pub mode-told : (old : ℕ) → modeOr (wordsRun (freshAfter ws clock) l) old ≡ modeRead (wordsRun (freshAfter ws clock) l)
   unfolding modeOr readingWords
   mode-told old = rw stays-a-state
