@@ -44,7 +44,7 @@ enum {
     COINHAMPER_NONE = 0,           /* accepted */
     COINHAMPER_BAD_STATE = 1,      /* a streak that the state's mode can't have: the words were altered; start afresh */
     COINHAMPER_TOO_LARGE = 2,      /* a count above 2^53 that is to become a float: no true count; see where it comes from */
-    COINHAMPER_COUNTER_FULL = 3,   /* a counter or a time would pass 2^64 - 1: mend the clock, or start afresh */
+    COINHAMPER_COUNTER_FULL = 3,   /* a counter, the sum of probes or an altered time would pass 2^64 - 1: mend the read counters, or start afresh */
     COINHAMPER_TOO_MANY = 4,       /* over 1,024 tables, 16 entries, 145 candidates, 1,024 numbers of one, 4,096 lines of a log's text: lend fewer */
     COINHAMPER_BAD_RECORD = 5,     /* a part record, unpaired buffers, a field out of its range, a bad line: mend what is lent */
     COINHAMPER_BAD_LEVEL = 6,      /* an over-budget level above 2^32 - 2, which has none below it: leave it out */
@@ -62,7 +62,8 @@ uint64_t coinhamper_version(void);
 /* Answers a number: how many words a caller lends for a state. */
 size_t coinhamper_state_words(void);
 
-/* The governor. Clocks are nanoseconds. Modes: 0 Balanced, 1 ReadProtect, 2 WriteEmergency. Writes `state`, but where it is const. */
+/* The governor. Clocks are nanoseconds; the highest reading that was accepted is kept, and a lower one adds no time. Modes: 0 Balanced, 1 ReadProtect,
+ * 2 WriteEmergency. Writes `state`, but where it is const. */
 
 /* 100 by the length alone. Makes a fresh governor, whatever the words were. */
 uint64_t coinhamper_fresh(uint64_t *state, size_t state_len, uint64_t clock);

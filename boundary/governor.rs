@@ -252,7 +252,7 @@ impl Refusal {
         match self.0 {
             1 => ("BadState", "the state's streaks don't fit its mode", "make a new governor: something else has written to this one"),
             2 => ("TooLarge", "a count that is to become a float is above 2^53", "hand in a smaller count"),
-            3 => ("CounterFull", "a counter, a time or the sum of probes would pass 2^64 - 1", "make a new governor, or reset the read counters"),
+            3 => ("CounterFull", "a counter or the sum of probes would pass 2^64 - 1", "make a new governor, or reset the read counters"),
             4 => ("TooMany", "over 1,024 tables, 16 over-budget levels, 145 candidates or 1,024 numbers in one", "hand in less, level by level"),
             5 => ("BadRecord", "a table's size is above 2^40, or a batch's length isn't 1 to 8", "hand in a smaller one, or a length as generated"),
             6 => ("BadLevel", "an over-budget level is 2^32 - 1, which has none below it", "leave that entry out"),
@@ -290,9 +290,6 @@ pub enum Fallback {
     /// sum of the batch lengths past 2^53, from where every later snapshot would be refused. With lengths that generation gives either takes over
     /// 2^50 calls.
     NotRecorded,
-    /// `snapshot`: the time since the last observation is not in it, being more than the present mode's counter holds. Comes only of a clock that
-    /// goes back.
-    TimeLeftOut,
     /// `snapshot`: mode, pressure and vector, and 0 for all other figures. Comes only of more than 2^53 outcomes.
     FiguresMissing,
     /// `generate_candidates`: the over-budget level 2^32 - 1 is left out. The original panics there, or in a release build takes level 0 for the
@@ -318,11 +315,10 @@ pub enum Fallback {
 }
 
 impl Fallback {
-    pub const ALL: [Fallback; 12] = [
+    pub const ALL: [Fallback; 11] = [
         Fallback::CountsHalved,
         Fallback::ReadsHeld,
         Fallback::NotRecorded,
-        Fallback::TimeLeftOut,
         Fallback::FiguresMissing,
         Fallback::LevelLeftOut,
         Fallback::SizesRanked,
@@ -702,7 +698,9 @@ pub(crate) fn pacing_delay(mode: GovernorMode, pressure: f64) -> Duration {
 
 /// The library's words for a governor and its log. Their layout is the library's own: they are lent to it and never looked into.
 ///
-/// The clock that the library is handed is the nanoseconds since `new`, by `Instant`, at most 2^64 - 1.
+/// The clock that the library is handed is the nanoseconds since `new`, by `Instant`: 0 where that is below the one that `new` read, and at most
+/// 2^64 - 1. Of these readings the library keeps the highest that it accepted. So on a machine whose clock wakes older a stretch is counted once, the
+/// three times add up to the highest reading, and no call is refused for a time.
 pub(crate) struct GovernorState {
     state: Box<[u64]>,
     /// As after the last observation.
@@ -943,9 +941,10 @@ impl GovernorState {
         self.recorded(result);
     }
 
-    fn figures(&self, clock: u64) -> Result<GovernorStats, Refusal> {
+    /// Refused with 2 for over 2^53 outcomes.
+    pub(crate) fn try_snapshot(&self) -> Result<GovernorStats, Refusal> {
         let mut words = [0; 14];
-        library::snapshot(&self.state, clock, &mut words)?;
+        library::snapshot(&self.state, self.clock(), &mut words)?;
         Ok(GovernorStats {
             mode: GovernorMode::of(words[0]),
             pressure: f64::from_bits(words[1]),
@@ -962,19 +961,9 @@ impl GovernorState {
         })
     }
 
-    /// Refused with 2 for over 2^53 outcomes, with 3 for a time past 2^64 - 1 nanoseconds.
-    pub(crate) fn try_snapshot(&self) -> Result<GovernorStats, Refusal> {
-        self.figures(self.clock())
-    }
-
-    /// Falls back by `TimeLeftOut` and `FiguresMissing`.
+    /// Falls back by `FiguresMissing`.
     pub(crate) fn snapshot(&self) -> GovernorStats {
         self.try_snapshot().unwrap_or_else(|why| {
-            // A reading of 0 isn't above the kept one, so it adds no time.
-            if let Ok(figures) = self.figures(0) {
-                self.fallbacks.note(Fallback::TimeLeftOut, why);
-                return figures;
-            }
             self.fallbacks.note(Fallback::FiguresMissing, why);
             GovernorStats { mode: self.mode(), pressure: self.pressure(), pressure_vector: self.pressure_vector(), ..GovernorStats::default() }
         })

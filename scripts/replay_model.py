@@ -67,7 +67,7 @@ class Governor:
         self.vector = (l0, self.debt, read)
         self.probed = probed
         self.times[self.mode] = time
-        self.clock = clock
+        self.clock = max(self.clock, clock)
         self.switches += mode != self.mode
         self.mode, self.streak = mode, streak
         return NONE

@@ -70,14 +70,15 @@ fn same_state(what: &str, g: &mut Governor, r: &rust::GovernorState, now: u64) {
     same(&format!("snapshot {what}"), &t, &figures);
 }
 
-/// Random calls on one governor, both sides read after each; the clock goes back at times.
+/// Random calls on one governor, both sides read after each. At times the clock goes back; the original, which keeps the last reading and not the
+/// highest, is handed one that stays at the highest instead.
 fn random_run(d: &mut Dice) {
     let mut now = d.below(1 << 40);
     NOW.store(now, Relaxed);
     let (mut g, mut r) = (Governor::fresh(now), rust::GovernorState::new());
     same_state("of a fresh governor", &mut g, &r, now);
     let odd = d.below(3) == 0;
-    let mut sums = [0u64; 5];
+    let (mut sums, mut highest) = ([0u64; 5], now);
     for turn in 0..120 {
         now = if d.below(9) == 0 { now - d.below(now.min(1 << 30) + 1) } else { now + d.below(1 << 32) };
         NOW.store(now, Relaxed);
@@ -100,6 +101,8 @@ fn random_run(d: &mut Dice) {
         let name = match d.below(9) {
             0 | 1 => {
                 same("observe, the refusal", &[port_observe(&mut g, &lent(&s))], &[0]);
+                highest = highest.max(now);
+                NOW.store(highest, Relaxed);
                 r.observe(sample(&s));
                 "after observe"
             }
@@ -108,6 +111,8 @@ fn random_run(d: &mut Dice) {
                     *sum += if d.below(4) == 0 { 0 } else { d.below(most) };
                 }
                 same("observe_engine, the refusal", &[port_observe_engine(&mut g, &lent(&s), &lent(&sums))], &[0]);
+                highest = highest.max(now);
+                NOW.store(highest, Relaxed);
                 r.observe_engine(s[1] as usize, s[2] as usize, ratio, s[5] as usize, stats(&sums));
                 "after observe_engine"
             }

@@ -123,24 +123,6 @@ fn batch_not_recorded(d: &mut Dice) {
     pair.call(Call::Chosen((2, 3, 1 + d.below(8) as usize)));
 }
 
-/// A time that is full, by a clock that goes back: an observation isn't recorded, a snapshot has all but the last stretch.
-fn time_full(d: &mut Dice) {
-    let mut pair = Pair::new(0);
-    let s = Call::Observe(sample(d, true, false));
-    for now in [u64::MAX, 0] {
-        NOW.store(now, Relaxed);
-        dropin::call(&mut pair.module, s);
-    }
-    let before = dropin::look(&pair.module);
-    NOW.store(1 + d.below(1 << 50), Relaxed);
-    counting(&mut pair, &[Fallback::NotRecorded], 3, |g| _ = dropin::call(g, Call::Observe(sample(&mut Dice(1), false, false))));
-    counting(&mut pair, &[Fallback::TimeLeftOut], 3, |g| same("a snapshot without its last stretch", dropin::look(g), before));
-    same("the refusal of try_snapshot", pair.module.try_snapshot().err(), Some(Refusal(3)));
-    same("the refusal of try_observe", pair.module.try_observe(Default::default()).err(), Some(Refusal(3)));
-    same("the refusal of try_observe_engine", pair.module.try_observe_engine(0, 0, 0.0, 0, Default::default()).err(), Some(Refusal(3)));
-    same("try_record_trivial_move", pair.module.try_record_trivial_move(7), Ok(()));
-}
-
 fn of_plans() -> &'static dropin::Fallbacks {
     dropin::fallbacks()
 }
@@ -293,8 +275,8 @@ fn crowded(d: &mut Dice) {
     plan.estimated(&sides, &found);
 }
 
-const CASES: [fn(&mut Dice); 10] =
-    [counts_halved, reads_held, outcomes_halved, batch_not_recorded, time_full, level_left_out, sizes_ranked, estimated_here, chosen_here, crowded];
+const CASES: [fn(&mut Dice); 9] =
+    [counts_halved, reads_held, outcomes_halved, batch_not_recorded, level_left_out, sizes_ranked, estimated_here, chosen_here, crowded];
 
 pub fn fallback(d: &mut Dice) -> u64 {
     texts(d);

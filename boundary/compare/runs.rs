@@ -69,16 +69,25 @@ pub struct Pair {
     pub module: dropin::GovernorState,
     pub original: original::GovernorState,
     pub base: u64,
+    /// The highest reading of an observation.
+    highest: u64,
 }
 
 impl Pair {
     pub fn new(base: u64) -> Pair {
         NOW.store(base, Relaxed);
-        Pair { module: dropin::GovernorState::new(), original: original::GovernorState::new(), base }
+        Pair { module: dropin::GovernorState::new(), original: original::GovernorState::new(), base, highest: base }
     }
 
     pub fn call(&mut self, call: Call) {
-        let (module, original) = (dropin::call(&mut self.module, call), original::call(&mut self.original, call));
+        let (now, module) = (NOW.load(Relaxed), dropin::call(&mut self.module, call));
+        // the original keeps the last reading and not the highest: it is handed a clock that stays at the highest instead of going back
+        if matches!(call, Call::Observe(_) | Call::Engine(..)) {
+            self.highest = self.highest.max(now);
+            NOW.store(self.highest, Relaxed);
+        }
+        let original = original::call(&mut self.original, call);
+        NOW.store(now, Relaxed);
         if module != original {
             differ("the mode that is answered", &format!("{module:?} and {original:?} after {call:?}"));
         }
@@ -110,8 +119,11 @@ pub fn run(d: &mut Dice) -> u64 {
     let (turns, logging) = if d.one_in(2000) { (6000 + d.below(4000), true) } else { (d.below(60), false) };
     let mut reads = [0u64; 5];
     for turn in 0..turns {
-        // not below where it began: an `Instant` never goes back, and the module's clock starts there
-        now = if d.one_in(9) { now - d.below((now - pair.base).min(1 << 30) + 1) } else { now + d.below(1 << 32) };
+        now = match d.below(90) {
+            0 => d.next() >> d.below(64),
+            1..10 => now - d.below(now.min(1 << 30) + 1),
+            _ => now.saturating_add(d.below(1 << 32)),
+        };
         NOW.store(now, Relaxed);
         let calm = turn / 15 % 2 == 1;
         let call = match d.below(if logging { 60 } else { 10 }) {
@@ -135,7 +147,7 @@ pub fn run(d: &mut Dice) -> u64 {
         pair.call(call);
         if d.one_in(40) && !logging {
             // a later reading, for the snapshot alone
-            NOW.store(now + d.below(1 << 31), Relaxed);
+            NOW.store(now.saturating_add(d.below(1 << 31)), Relaxed);
             pair.look(&"a later snapshot");
         }
         if d.one_in(if logging { 1000 } else { 30 }) {

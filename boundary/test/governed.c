@@ -50,6 +50,10 @@ void try_fresh(void) {
     state_left(state, r);
 }
 
+static bool left_as(const uint64_t *state, const struct next *next) {
+    return state[1] == next->mode && !memcmp(state + 12, next->streaks, sizeof next->streaks) && !memcmp(state + 15, next->times, sizeof next->times);
+}
+
 void try_observe(void) {
     struct lent *state = lend_state(true);
     struct sample s = odd_sample(state);
@@ -58,7 +62,7 @@ void try_observe(void) {
     lent_keep();
     uint64_t r = coinhamper_observe(WORDS(state), s.clock, s.count, s.trigger, s.ratio, s.probes, s.backlog);
     judge(r, want);
-    if (r == 0) WANT(FILL(state)[1] == next.mode && !memcmp(FILL(state) + 12, next.streaks, sizeof next.streaks));
+    if (r == 0) WANT(left_as(FILL(state), &next));
     state_left(state, r);
 }
 
@@ -74,7 +78,7 @@ void try_observe_engine(void) {
     uint64_t r = coinhamper_observe_engine(WORDS(state), s.clock, s.count, s.trigger, s.ratio, s.backlog, c.gets, c.in_memtable, c.in_immutable, c.l0_probed,
         c.leveled_probed);
     judge(r, want);
-    if (r == 0) WANT(FILL(state)[1] == next.mode && !memcmp(FILL(state) + 12, next.streaks, sizeof next.streaks));
+    if (r == 0) WANT(left_as(FILL(state), &next));
     state_left(state, r);
 }
 
@@ -160,17 +164,19 @@ void try_dominant(void) {
     judge(coinhamper_dominant(a, b, c) == dominant_rule(a, b, c) ? 0 : 1, 0);
 }
 
-/* From a fresh governor no run of calls leaves words that are no state, or a state that the observing calls refuse by 1. */
+/* From a fresh governor no run of calls leaves words that are no state, or a state that a call refuses by 1 or by 3, and the times add up to the highest
+   reading minus the start. */
 void state_run(unsigned long calls) {
-    uint64_t state[STATE_WORDS], out[14], accepted = 0, switches = 0;
-    WANT(coinhamper_fresh(state, STATE_WORDS, any() >> below(64)) == 0);
+    uint64_t state[STATE_WORDS], out[14], accepted = 0, switches = 0, start = any() >> below(64);
+    WANT(coinhamper_fresh(state, STATE_WORDS, start) == 0);
     for (unsigned long i = 0; i < calls; i++) {
-        uint64_t r = 0, mode = state[1], clock = once_in(1000) ? any() >> (8 + below(56)) : state[18] + below(1000000);
+        uint64_t r = 0, mode = state[1], kept = state[18];
+        uint64_t clock = once_in(1000) ? any() >> (8 + below(56)) : once_in(8) ? kept / (1 + below(3)) : kept + below(1000000);
         /* busy, then many reads, then calm */
         unsigned phase = i / 40 % 3;
         uint64_t a = once_in(50) ? odd_number() : below(phase ? 2 : 9), b = once_in(50) ? odd_number() : 8, c = once_in(20) ? odd_number() : below(4);
         double ratio = once_in(50) ? odd_float() : unit_float() * (phase ? 1.5 : 4), probes = once_in(3000) ? odd_float() : phase == 1 ? 4 : unit_float();
-        if (once_in(10000)) r = coinhamper_fresh(state, STATE_WORDS, clock); /* a NaN stays in the smoothed probes */
+        if (once_in(10000)) r = coinhamper_fresh(state, STATE_WORDS, start = clock); /* a NaN stays in the smoothed probes */
         else switch (below(8)) {
         case 0: r = coinhamper_record_candidate_chosen(state, STATE_WORDS, c, (uint32_t)any(), odd_number()); break;
         case 1: r = coinhamper_record_trivial_move(state, STATE_WORDS, odd_number()); break;
@@ -184,7 +190,8 @@ void state_run(unsigned long calls) {
         }
         accepted += r == 0;
         switches += state[1] != mode;
-        WANT(r != 1 && r != 100 && is_state(state, STATE_WORDS) && coinhamper_read(state, STATE_WORDS, out, 8) == 0);
+        WANT(r != 1 && r != 3 && r != 100 && is_state(state, STATE_WORDS) && coinhamper_read(state, STATE_WORDS, out, 8) == 0);
+        WANT(state[15] + state[16] + state[17] == state[18] - start && state[18] >= start && state[18] >= kept);
         WANT(coinhamper_mode(state, STATE_WORDS, &mode) == 0 && mode == out[0]);
     }
     printf("run: %lu calls on one state, %llu accepted, %llu switches\n", calls, (unsigned long long)accepted, (unsigned long long)switches);

@@ -70,6 +70,9 @@ static void observations(void) {
     keep();
     WANT(observed(10, 0, 4, 0, 0) == 3 && kept());
     WANT(observed(9, 0, 4, 0, 0) == 0);
+    fresh(9); /* a lower reading adds nothing and is not kept */
+    const uint64_t readings[] = {9, 5, 7, 12}, times[] = {0, 0, 0, 3}, highest[] = {9, 9, 9, 12};
+    for (size_t i = 0; i < COUNT(readings); i++) WANT(observed(readings[i], 0, 4, 0, 0) == 0 && state[15] == times[i] && state[18] == highest[i]);
     fresh(0);
     state[14] = 1; /* Balanced with a streak of WriteEmergency */
     keep();

@@ -44,22 +44,29 @@ static struct next next_mode(const uint64_t *w, struct sample s) {
     double smoothed = 0.3 * s.probes + (1.0 - 0.3) * float_of(w[SMOOTHED]);
     double fraction = s.trigger ? (double)s.count / (double)s.trigger : 0;
     uint64_t mode = w[MODE];
-    if (mode != 2 && (fraction >= 0.75 || s.ratio >= 3.0)) return (struct next){2, {0, 0, 0}};
+    if (mode != 2 && (fraction >= 0.75 || s.ratio >= 3.0)) return (struct next){.mode = 2};
     bool passes = mode == 0 ? smoothed >= 1.6 : mode == 1 ? smoothed <= 1.15 : fraction <= 0.45 && s.ratio <= 1.5;
     uint64_t streak = passes ? w[STREAKS + mode] + 1 : 0;
-    struct next n = {mode, {0, 0, 0}};
+    struct next n = {.mode = mode};
     if (streak == windows[mode]) n.mode = follows[mode];
     else n.streaks[mode] = streak;
     return n;
 }
 
+static uint64_t less(uint64_t a, uint64_t b) {
+    return a > b ? a - b : 0;
+}
+
+/* R4.17 */
 static bool time_full(const uint64_t *w, uint64_t clock) {
-    uint64_t spent = clock > w[KEPT_CLOCK] ? clock - w[KEPT_CLOCK] : 0;
-    return spent > UINT64_MAX - w[TIMES + w[MODE]];
+    return less(clock, w[KEPT_CLOCK]) > UINT64_MAX - w[TIMES + w[MODE]];
 }
 
 static uint64_t counts_rule(const uint64_t *w, struct sample s, struct next *next) {
     *next = next_mode(w, s);
+    memcpy(next->times, w + TIMES, sizeof next->times);
+    next->times[w[MODE]] += less(s.clock, w[KEPT_CLOCK]);
+    if (s.clock > w[KEPT_CLOCK]) next->times[3] = s.clock;
     if (time_full(w, s.clock)) return 3;
     return next->mode != w[MODE] && w[SWITCHES] == UINT64_MAX ? 3 : 0;
 }
@@ -72,10 +79,6 @@ uint64_t observe_rule(const uint64_t *w, size_t n, struct sample s, struct next 
     if (!is_state(w, n)) return 100;
     if (!sound(w)) return 1;
     return large(s) ? 2 : counts_rule(w, s, next);
-}
-
-static uint64_t less(uint64_t a, uint64_t b) {
-    return a > b ? a - b : 0;
 }
 
 /* R4.5, R2.4 to R2.6 */

@@ -17,9 +17,9 @@ struct sample {
 struct counters {
     uint64_t gets, in_memtable, in_immutable, l0_probed, leveled_probed;
 };
-/* Mode and streaks after an accepted observation. */
+/* After an accepted observation: the mode; then words 12 to 18, the streaks, the times and the kept reading. */
 struct next {
-    uint64_t mode, streaks[3];
+    uint64_t mode, streaks[3], times[4];
 };
 uint64_t observe_rule(const uint64_t *w, size_t n, struct sample s, struct next *next);
 uint64_t engine_rule(const uint64_t *w, size_t n, struct sample s, struct counters c, struct next *next);

@@ -4,7 +4,7 @@ use crate::ask;
 use crate::fits;
 use crate::make_log::{ENDS, SHORTEST, as_words, line_of};
 use crate::question::{Arg, Question};
-use crate::state::{LARGE, State};
+use crate::state::{LARGE, Sample, State};
 
 const MAX: u64 = u64::MAX;
 const ONE: u64 = 0x3ff0000000000000;
@@ -131,6 +131,26 @@ fn observing(engine: bool) -> Question {
 
 fn decision() -> Vec<u64> {
     vec![0, 0, ONE, 0, 2, 3, 4, 2, 1, 3, 190, 0, ONE, 0]
+}
+
+/// A clock that goes back, by either observing call, the state carried on: 9, 5, 7, 12 after a start at 9, and a first reading below the start; in
+/// nanoseconds, and in milliseconds with snapshots, which keep nothing.
+fn older_clocks() -> Vec<Question> {
+    let mut out = vec![];
+    for unit in [1, 1_000_000] {
+        for (readings, engine) in [([9, 5, 7, 12], false), ([9, 5, 7, 12], true), ([5, 12, 0, 13], false), ([5, 12, 0, 13], true)] {
+            let mut s = State::fresh(9 * unit);
+            for now in readings.map(|r| r * unit) {
+                let words = s.words();
+                out.push(if engine { ask!("observe_engine", words, now, 0, 4, 0, 0, 0, 0, 0, 0, 0) } else { ask!("observe", words, now, 0, 4, 0, 0, 0) });
+                s.observe(now, &Sample { count: 0, trigger: 4, ratio: 0.0, probes: 0.0, backlog: 0 });
+                if unit > 1 && !engine {
+                    out.extend([20, 12, 5].map(|r| ask!("snapshot", s.words(), r * unit)));
+                }
+            }
+        }
+    }
+    out
 }
 
 pub fn all() -> Vec<Question> {
@@ -371,6 +391,7 @@ pub fn all() -> Vec<Question> {
     out.push(ask!("of_words", vec![]));
     out.push(ask!("of_words", vec![0; 13]));
     out.push(ask!("of_words", vec![0; 15]));
+    out.extend(older_clocks());
     out
 }
 

@@ -63,7 +63,12 @@ impl Dice {
     /// The next call of a run: mostly plausible, its counters growing, now and then refused.
     pub fn next_call(&mut self, s: &State) -> Question {
         let words = s.words();
-        let now = if self.one_in(10) { self.number() } else { s.last.saturating_add(self.below(1 << 30)) };
+        // a jump is seldom: the highest reading stays
+        let now = match self.below(60) {
+            0 => self.number(),
+            1..=6 => s.last - self.below(s.last.saturating_add(1)),
+            _ => s.last.saturating_add(self.below(1 << 30)),
+        };
         let ratio = bits(match self.below(8) {
             0 => f64::NAN,
             1 => 3.0,

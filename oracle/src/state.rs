@@ -131,6 +131,7 @@ impl State {
     }
 
     /// "Each accepted observation adds now minus the previous reading to the old mode's time, or 0 if the clock went back."
+    /// The previous reading is the highest so far: "Keep the larger of the two readings" (02 (ii)).
     fn time_up_to(&self, now: u64) -> u128 {
         self.times[self.mode] as u128 + now.saturating_sub(self.last) as u128
     }
@@ -185,7 +186,7 @@ impl State {
         self.debt = State::smoothed(self.debt, maximum(debt, backlog));
         self.vector = [l0, self.debt, read];
         self.times[self.mode] += now.saturating_sub(self.last);
-        self.last = now;
+        self.last = self.last.max(now);
         self.switches += (mode != self.mode) as u64;
         self.mode = mode;
         self.streaks = streaks;

@@ -29,10 +29,10 @@ use Rattle.governor_promises.proofs.Answers.{Says, by-fault, by-same, n
 -- ---- lists
 
 -- what one call has of something: nothing if it was refused
-abbrev one : {A : Type 0} → (Action → List A) → Bool → Action → List A
+abbrev pub one : {A : Type 0} → (Action → List A) → Bool → Action → List A
 one has b a = cond b (has a) []
 
-gather-one : {A : Type 0} (has : Action → List A) (b : Bool) (a : Action) (l : List Action) → flatMap has (cond b (a ∷ l) l) ≡ one has b a ++ flatMap has l
+pub gather-one : {A : Type 0} (has : Action → List A) (b : Bool) (a : Action) (l : List Action) → flatMap has (cond b (a ∷ l) l) ≡ one has b a ++ flatMap has l
 unfolding flatMap
 gather-one has true a l = refl
 gather-one has false a l = refl

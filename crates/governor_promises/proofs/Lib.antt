@@ -7,3 +7,4 @@ pub mod Answers
 pub mod CallByCall
 pub mod Sound
 pub mod Counts
+pub mod Times

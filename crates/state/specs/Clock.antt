@@ -1,6 +1,6 @@
--- Elapsed time and the kept reading, one rule for observations and snapshots: a clock that went back adds 0. Definitions only.
+-- Elapsed time and the kept reading, one rule for observations and snapshots: the larger reading is kept, so a clock that went back adds 0 until it is past it again. Definitions only.
 pub mod Exact
-use Prim.Native.Nat.{ℕ, _+_, _-_}
+use Prim.Native.Nat.{ℕ, _+_, _-_, max}
 use Rattle.counts.specs.Counts.{saturatingAdd}
 use Rattle.kinds.specs.declared.mode.GovernorMode.{GovernorMode}
 use Rattle.kinds.specs.declared.mode.GovernorMode.the-variants.{Balanced, ReadProtect, WriteEmergency}
@@ -9,14 +9,17 @@ use Rattle.state.specs.declared.Times.{Times}
 abbrev pub elapsedOf : Times → ℕ → ℕ
 elapsedOf t now = now - t .«last_transition»
 
--- the reading that is kept: the new one, though it may be lower
+-- the reading that is kept: the larger
 abbrev pub keptOf : Times → ℕ → ℕ
-keptOf t now = now
+keptOf t now = max (t .«last_transition») now
 
 abbrev pub timeIn : GovernorMode → Times → ℕ
 timeIn Balanced t = t .balanced
 timeIn ReadProtect t = t .«read_protect»
 timeIn WriteEmergency t = t .«write_emergency»
+
+abbrev pub totalOf : Times → ℕ
+totalOf t = t .balanced + t .«read_protect» + t .«write_emergency»
 
 -- the mode's time up to now, which may not fit
 abbrev pub timeUpTo : GovernorMode → Times → ℕ → ℕ

@@ -2,7 +2,7 @@
 ghost use mathlib.Core.Path.{_≡_};
 ghost use Prim.Native.Nat.{_-_, _^_};
 ghost use lib.Dec.{ltb};
-ghost use Rattle.state.specs.Clock.{elapsedOf, timeIn, timeUpTo, timesOf};
+ghost use Rattle.state.specs.Clock.{elapsedOf, keptOf, timeIn, timeUpTo, timesOf};
 use crate::Times;
 use counts::saturating_add;
 use kinds::mode::GovernorMode;
@@ -16,6 +16,17 @@ fn elapsed(t: Times, now: u64) -> u64
         return 0;
     }
     now - last
+}
+
+// The larger of the two readings.
+fn kept(t: Times, now: u64) -> u64
+    ensures { λ r. ⌜ r ≡ keptOf t now ⌝ }
+{
+    let last = t.last_transition;
+    if last < now {
+        return now;
+    }
+    last
 }
 
 fn time_in(mode: GovernorMode, t: Times) -> u64
@@ -40,7 +51,8 @@ pub fn times_after(mode: GovernorMode, mut t: Times, now: u64) -> Times
     ensures { λ r. ⌜ r ≡ timesOf mode t now ⌝ }
 {
     let spent = elapsed(t, now);
-    t.last_transition = now;
+    let reading = kept(t, now);
+    t.last_transition = reading;
     match mode {
         GovernorMode::Balanced => {
             t.balanced = saturating_add(t.balanced, spent);
