@@ -176,7 +176,7 @@ void state_run(unsigned long calls) {
         unsigned phase = i / 40 % 3;
         uint64_t a = once_in(50) ? odd_number() : below(phase ? 2 : 9), b = once_in(50) ? odd_number() : 8, c = once_in(20) ? odd_number() : below(4);
         double ratio = once_in(50) ? odd_float() : unit_float() * (phase ? 1.5 : 4), probes = once_in(3000) ? odd_float() : phase == 1 ? 4 : unit_float();
-        if (once_in(10000)) r = coinhamper_fresh(state, STATE_WORDS, start = clock); /* a NaN stays in the smoothed probes */
+        if (once_in(10000)) r = coinhamper_fresh(state, STATE_WORDS, start = kept = clock); /* a NaN stays in the smoothed probes */
         else switch (below(8)) {
         case 0: r = coinhamper_record_candidate_chosen(state, STATE_WORDS, c, (uint32_t)any(), odd_number()); break;
         case 1: r = coinhamper_record_trivial_move(state, STATE_WORDS, odd_number()); break;
