@@ -1,14 +1,14 @@
 -- From a state whose fields fit their types on, a run of calls on words is the run on states: the same numbers, and the words of the state that it reaches. So demand 3 holds through the boundary.
-use Prim.Native.Nat.{ℕ}
+use Prim.Native.Nat.{ℕ, _+_, _^_, _<_}
 use native.Mathlib.Omega.{arith}
 use mathlib.Core.Path.{_≡_, refl, sym, ap, _∙_}
 use mathlib.Core.Logic.{_↔_}
 use mathlib.Core.Bool.{Bool, true, false, cond}
 use mathlib.Core.List.{List, [], _∷_}
 use lib.ListN.{length}
-use lib.Dec.{eqb}
+use lib.Dec.{T, eqb}
 use borrow.Author.Tests.{eq-eqb, eqb-false}
-use Rattle.refusals.specs.Refusals.{none}
+use Rattle.refusals.specs.Refusals.{none, counterFull}
 use Rattle.kinds.specs.declared.mode.GovernorMode.{GovernorMode}
 use Rattle.kinds.specs.declared.mode.GovernorMode.the-variants.{Balanced, ReadProtect, WriteEmergency}
 use Rattle.kinds.specs.declared.kind.CandidateKind.the-variants.{L0, LevelBatch, TrivialMove}
@@ -19,14 +19,16 @@ use Rattle.state.specs.declared.Observed.{Observed}
 use Rattle.state.specs.State.{freshOf}
 use Rattle.governor_promises.specs.Reading.{sampled, counted, ReadsAs}
 use Rattle.governor_promises.specs.Calls.{Action, observe, move, outcome, choose, focus, snapshot, acted, after}
+use Rattle.governor_promises.specs.Times.{highest, Reads, EachReads, fullBesideTime}
 use Rattle.governor_promises.proofs.Answers.{refused-changes-nothing}
 use Rattle.governor_promises.proofs.Thresholds.{source-apart}
 use Rattle.governor_promises.proofs.CallByCall.{list, reads-calls}
+use Rattle.governor_promises.proofs.Times.{times-add-up, time-never-full}
 use Rattle.state_words.specs.StateWords.{isState, stateIn, stateWords, gated, refusalOf, wordsAfter}
 use Rattle.state_words.specs.StateWords.Back.{Fits, focus-good, focus-back, words-good, back}
 use Rattle.answer_words.specs.AnswerWords.{readingWords, modeOr}
 use Rattle.coinhamper.specs.Governed.{freshAfter, chosenBy, focusedBy}
-use Rattle.boundary_promises.specs.WordRuns.{saidOf, refusalOn, wordsOn, wordsRun, refusalsRun, refusals, Handed, EachHanded, modeRead}
+use Rattle.boundary_promises.specs.WordRuns.{saidOf, refusalOn, wordsOn, wordsRun, refusalsRun, refusals, Handed, EachHanded, totalRead, modeRead}
 use Rattle.boundary_promises.proofs.Fitting.{fresh-fits, acted-fits}
 
 -- ---- one call
@@ -91,11 +93,17 @@ run-fits s (a ∷ l) h k = run-fits (acted source s a .state) l (acted-fits s a 
 -- ---- from a fresh governor on
 
 module _ (ws : List ℕ) (long : length ws ≡ 28) (clock : ℕ) (l : List Action) (handed : EachHanded l) where
+  abbrev ended : GovernorState
+  ended = after source (freshOf clock) l
+
+  ended-fits : Fits ended
+  ended-fits = run-fits (freshOf clock) l (fresh-fits clock) handed
+
   begun : freshAfter ws clock ≡ stateWords (freshOf clock)
   unfolding freshAfter
   begun = rw (eq-eqb (length ws) 28 long)
 
-  pub fresh-run : wordsRun (freshAfter ws clock) l ≡ stateWords (after source (freshOf clock) l)
+  pub fresh-run : wordsRun (freshAfter ws clock) l ≡ stateWords ended
   fresh-run = rw begun (run-words (freshOf clock) l (fresh-fits clock) handed)
 
   pub fresh-refusals : refusalsRun (freshAfter ws clock) l ≡ refusals (freshOf clock) l
@@ -103,16 +111,25 @@ module _ (ws : List ℕ) (long : length ws ≡ 28) (clock : ℕ) (l : List Actio
 
   -- no call of it is refused by 100
   pub stays-a-state : isState (wordsRun (freshAfter ws clock) l) ≡ true
-  stays-a-state = rw fresh-run (words-good (after source (freshOf clock) l) (run-fits (freshOf clock) l (fresh-fits clock) handed .smalls))
+  stays-a-state = rw fresh-run (words-good ended (ended-fits .smalls))
 
-  mode-read : modeRead (wordsRun (freshAfter ws clock) l) ≡ modeNumber (after source (freshOf clock) l .mode)
+  mode-read : modeRead (wordsRun (freshAfter ws clock) l) ≡ modeNumber (ended .mode)
   unfolding readingWords
-  mode-read = rw (fresh-run, back (after source (freshOf clock) l) (run-fits (freshOf clock) l (fresh-fits clock) handed))
+  mode-read = rw (fresh-run, back ended ended-fits)
 
   -- `coinhamper_mode` answers the mode that `coinhamper_read` does
   pub mode-told : (old : ℕ) → modeOr (wordsRun (freshAfter ws clock) l) old ≡ modeRead (wordsRun (freshAfter ws clock) l)
   unfolding modeOr readingWords
   mode-told old = rw stays-a-state
+
+  -- 02 (ii): the times add up, and a call that answers 3 has another sum that is full
+  module _ (start : clock < 2 ^ 64) (reads : EachReads l) where
+    pub words-add-up : totalRead (wordsRun (freshAfter ws clock) l) + clock ≡ highest source clock l
+    words-add-up = rw (fresh-run, back ended ended-fits) (times-add-up source clock start l reads)
+
+    pub words-never-full : (a : Action) → Handed a → Reads a → refusalOn (wordsRun (freshAfter ws clock) l) a ≡ counterFull
+        → T (fullBesideTime source ended a)
+    words-never-full a h r = rw (fresh-run, refusal-same ended a ended-fits h) (time-never-full source clock start l reads a r)
 
   -- demand 3: the mode that is read is the one that the list of accepted observations reads as
   pub reads-words : (m : GovernorMode) → (modeRead (wordsRun (freshAfter ws clock) l) ≡ modeNumber m) ↔ ReadsAs source (list clock l) m

@@ -7,6 +7,7 @@ use Rattle.kinds.specs.declared.kind.CandidateKind.the-variants.{L0, LevelBatch
 use Rattle.kinds.specs.Tuning.{source}
 use Rattle.state.specs.declared.GovernorState.{GovernorState}
 use Rattle.state.specs.declared.Observed.{Observed}
+use Rattle.state.specs.Clock.{totalOf}
 use Rattle.governor.specs.Observe.{observedOf}
 use Rattle.engine.specs.Engine.{engineOf}
 use Rattle.report.specs.Counters.{trivialMoveOf, outcomeOf}
@@ -82,6 +83,10 @@ Handed (snapshot now) = Unit {0}
 abbrev pub EachHanded : List Action → Type 0
 EachHanded [] = Unit {0}
 EachHanded (a ∷ l) = Handed a × EachHanded l
+
+-- what the times in the words come to
+abbrev pub totalRead : List ℕ → ℕ
+totalRead ws = totalOf (stateIn ws .times)
 
 -- the mode that `coinhamper_read` answers
 abbrev pub modeRead : List ℕ → ℕ

@@ -26,9 +26,12 @@ nextOf G s p = nextModeOf G (s .mode) (s .streaks) (fractionOf p) (p .«max_leve
 abbrev pub switches : Tuning → GovernorState → PressureSample → Bool
 switches G s p = differ (s .mode) (nextOf G s p .mode)
 
+abbrev pub switchesFull : Tuning → GovernorState → PressureSample → Bool
+switchesFull G s p = switches G s p && full (s .counters .«mode_switches»)
+
 -- the switches where this call switches, or the old mode's time
 unfoldable pub countersFull : Tuning → GovernorState → ℕ → PressureSample → Bool
-countersFull G s now p = (switches G s p && full (s .counters .«mode_switches»)) || ltb (2 ^ 64 - 1) (timeUpTo (s .mode) (s .times) now)
+countersFull G s now p = switchesFull G s p || ltb (2 ^ 64 - 1) (timeUpTo (s .mode) (s .times) now)
 
 -- 1, 2, 3
 abbrev pub observeChecks : Tuning → GovernorState → ℕ → PressureSample → List Check

@@ -19,7 +19,7 @@ use Rattle.state.specs.declared.Times.{Times}
 use Rattle.state.specs.State.{freshOf}
 use Rattle.state.specs.Clock.{keptOf, timeIn, totalOf, timeUpTo, timesOf}
 use Rattle.state.specs.Clock.Exact.{total-adds}
-use Rattle.governor.specs.Observe.{countersFull, acceptedOf, observeChecks, observeFault, observedOf}
+use Rattle.governor.specs.Observe.{switchesFull, countersFull, acceptedOf, observeChecks, observeFault, observedOf}
 use Rattle.windows.specs.Windows.{probedSum}
 use Rattle.engine.specs.Engine.{sampleOf, engineChecks, engineFault, engineOf}
 use Rattle.report.specs.Counters.{chosenOf, moveChecks, moveFault, trivialMoveOf, outcomeChecks, outcomeFault, outcomeOf}
@@ -27,7 +27,7 @@ use Rattle.snapshot.specs.Snapshot.{snapshotChecks, snapshotFault, snapshotOf, 
 use Rattle.governor_promises.specs.Reading.{Observation, sampled, counted}
 use Rattle.governor_promises.specs.Calls.{Action, observe, move, outcome, choose, focus, snapshot, acted, after, accepted}
 use Rattle.governor_promises.specs.Counts.{gathered}
-use Rattle.governor_promises.specs.Times.{reading, highestOf, highest, Reads, EachReads, switchesFull, fullBesideTime}
+use Rattle.governor_promises.specs.Times.{reading, highestOf, highest, Reads, EachReads, fullBesideTime}
 use Rattle.governor_promises.proofs.Answers.{Says, by-fault, by-same, newOf, by-answer, snapshot-fault}
 use Rattle.governor_promises.proofs.Counts.{one, gather-one}
 

@@ -1,14 +1,13 @@
 -- What the times have to say of a run: the highest reading seen, and what 3 may be given for beside a time.
 use Prim.Native.Nat.{ℕ, _-_, _^_, _<_, max}
-use mathlib.Core.Bool.{Bool, false, _&&_, _||_}
+use mathlib.Core.Bool.{Bool, false, _||_}
 use mathlib.Core.List.{List, [], _∷_}
 use lib.Dec.{ltb}
 use Rattle.kinds.specs.Tuning.{Tuning}
 use Rattle.state.specs.declared.GovernorState.{GovernorState}
 use Rattle.state.specs.State.{full, freshOf}
 use Rattle.windows.specs.Windows.{probedSum}
-use Rattle.pressure.specs.declared.PressureSample.{PressureSample}
-use Rattle.governor.specs.Observe.{switches}
+use Rattle.governor.specs.Observe.{switchesFull}
 use Rattle.engine.specs.Engine.{sampleOf}
 use Rattle.governor_promises.specs.Reading.{sampled, counted}
 use Rattle.governor_promises.specs.Calls.{Action, observe, move, outcome, choose, focus, snapshot}
@@ -43,9 +42,6 @@ Reads (snapshot now) = now < 2 ^ 64
 abbrev pub EachReads : List Action → Type 0
 EachReads [] = Unit {0}
 EachReads (a ∷ l) = Reads a × EachReads l
-
-abbrev pub switchesFull : Tuning → GovernorState → PressureSample → Bool
-switchesFull G s x = switches G s x && full (s .counters .«mode_switches»)
 
 -- a call's test for 3, its time left out
 abbrev pub fullBesideTime : Tuning → GovernorState → Action → Bool
