@@ -98,11 +98,14 @@ fn random_run(d: &mut Dice) {
         };
         let s = [now, count, trigger, ratio.to_bits(), probes.to_bits(), d.below(5)];
         let (x, y) = (d.word() >> 11, d.word() >> 11);
-        let name = match d.below(9) {
+        let call = d.below(9);
+        if call < 4 {
+            highest = highest.max(now);
+            NOW.store(highest, Relaxed);
+        }
+        let name = match call {
             0 | 1 => {
                 same("observe, the refusal", &[port_observe(&mut g, &lent(&s))], &[0]);
-                highest = highest.max(now);
-                NOW.store(highest, Relaxed);
                 r.observe(sample(&s));
                 "after observe"
             }
@@ -111,8 +114,6 @@ fn random_run(d: &mut Dice) {
                     *sum += if d.below(4) == 0 { 0 } else { d.below(most) };
                 }
                 same("observe_engine, the refusal", &[port_observe_engine(&mut g, &lent(&s), &lent(&sums))], &[0]);
-                highest = highest.max(now);
-                NOW.store(highest, Relaxed);
                 r.observe_engine(s[1] as usize, s[2] as usize, ratio, s[5] as usize, stats(&sums));
                 "after observe_engine"
             }

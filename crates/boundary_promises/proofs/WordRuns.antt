@@ -1,4 +1,4 @@
--- From a state whose fields fit their types on, a run of calls on words is the run on states: the same numbers, and the words of the state that it reaches. So demand 3 holds through the boundary.
+-- From a state whose fields fit their types on, a run of calls on words is the run on states: the same numbers, and the words of the state that it reaches. So demand 3 holds through the boundary, and the times add up.
 use Prim.Native.Nat.{ℕ, _+_, _^_, _<_}
 use native.Mathlib.Omega.{arith}
 use mathlib.Core.Path.{_≡_, refl, sym, ap, _∙_}
@@ -18,8 +18,8 @@ use Rattle.state.specs.declared.GovernorState.{GovernorState}
 use Rattle.state.specs.declared.Observed.{Observed}
 use Rattle.state.specs.State.{freshOf}
 use Rattle.governor_promises.specs.Reading.{sampled, counted, ReadsAs}
-use Rattle.governor_promises.specs.Calls.{Action, observe, move, outcome, choose, focus, snapshot, acted, after}
-use Rattle.governor_promises.specs.Times.{highest, Reads, EachReads, fullBesideTime}
+use Rattle.governor_promises.specs.Calls.{Action, observe, move, outcome, choose, focus, snapshot, EachCall, acted, after}
+use Rattle.governor_promises.specs.Times.{highest, ReadingFits, fullBesideTime}
 use Rattle.governor_promises.proofs.Answers.{refused-changes-nothing}
 use Rattle.governor_promises.proofs.Thresholds.{source-apart}
 use Rattle.governor_promises.proofs.CallByCall.{list, reads-calls}
@@ -28,7 +28,7 @@ use Rattle.state_words.specs.StateWords.{isState, stateIn, stateWords, gated, r
 use Rattle.state_words.specs.StateWords.Back.{Fits, focus-good, focus-back, words-good, back}
 use Rattle.answer_words.specs.AnswerWords.{readingWords, modeOr}
 use Rattle.coinhamper.specs.Governed.{freshAfter, chosenBy, focusedBy}
-use Rattle.boundary_promises.specs.WordRuns.{saidOf, refusalOn, wordsOn, wordsRun, refusalsRun, refusals, Handed, EachHanded, totalRead, modeRead}
+use Rattle.boundary_promises.specs.WordRuns.{saidOf, refusalOn, wordsOn, wordsRun, refusalsRun, refusals, Handed, totalRead, modeRead}
 use Rattle.boundary_promises.proofs.Fitting.{fresh-fits, acted-fits}
 
 -- ---- one call
@@ -75,24 +75,24 @@ words-same s (snapshot now) h k = refl
 
 -- ---- a run
 
-pub run-words : (s : GovernorState) (l : List Action) → Fits s → EachHanded l → wordsRun (stateWords s) l ≡ stateWords (after source s l)
+pub run-words : (s : GovernorState) (l : List Action) → Fits s → EachCall Handed l → wordsRun (stateWords s) l ≡ stateWords (after source s l)
 unfolding wordsRun after
 run-words s [] h k = refl
 run-words s (a ∷ l) h k = rw (words-same s a h (k .0)) (run-words (acted source s a .state) l (acted-fits s a h (k .0)) (k .1))
 
-pub run-refusals : (s : GovernorState) (l : List Action) → Fits s → EachHanded l → refusalsRun (stateWords s) l ≡ refusals s l
+pub run-refusals : (s : GovernorState) (l : List Action) → Fits s → EachCall Handed l → refusalsRun (stateWords s) l ≡ refusals s l
 unfolding refusalsRun refusals
 run-refusals s [] h k = refl
 run-refusals s (a ∷ l) h k = rw (refusal-same s a h (k .0), words-same s a h (k .0), run-refusals (acted source s a .state) l (acted-fits s a h (k .0)) (k .1))
 
-pub run-fits : (s : GovernorState) (l : List Action) → Fits s → EachHanded l → Fits (after source s l)
+pub run-fits : (s : GovernorState) (l : List Action) → Fits s → EachCall Handed l → Fits (after source s l)
 unfolding after
 run-fits s [] h k = h
 run-fits s (a ∷ l) h k = run-fits (acted source s a .state) l (acted-fits s a h (k .0)) (k .1)
 
 -- ---- from a fresh governor on
 
-module _ (ws : List ℕ) (long : length ws ≡ 28) (clock : ℕ) (l : List Action) (handed : EachHanded l) where
+module _ (ws : List ℕ) (long : length ws ≡ 28) (clock : ℕ) (l : List Action) (handed : EachCall Handed l) where
   abbrev ended : GovernorState
   ended = after source (freshOf clock) l
 
@@ -123,13 +123,13 @@ module _ (ws : List ℕ) (long : length ws ≡ 28) (clock : ℕ) (l : List Actio
   mode-told old = rw stays-a-state
 
   -- 02 (ii): the times add up, and a call that answers 3 has another sum that is full
-  module _ (start : clock < 2 ^ 64) (reads : EachReads l) where
+  module _ (clock-fits : clock < 2 ^ 64) (readings-fit : EachCall ReadingFits l) where
     pub words-add-up : totalRead (wordsRun (freshAfter ws clock) l) + clock ≡ highest source clock l
-    words-add-up = rw (fresh-run, back ended ended-fits) (times-add-up source clock start l reads)
+    words-add-up = rw (fresh-run, back ended ended-fits) (times-add-up source clock clock-fits l readings-fit)
 
-    pub words-never-full : (a : Action) → Handed a → Reads a → refusalOn (wordsRun (freshAfter ws clock) l) a ≡ counterFull
+    pub words-never-full : (a : Action) → Handed a → ReadingFits a → refusalOn (wordsRun (freshAfter ws clock) l) a ≡ counterFull
         → T (fullBesideTime source ended a)
-    words-never-full a h r = rw (fresh-run, refusal-same ended a ended-fits h) (time-never-full source clock start l reads a r)
+    words-never-full a h r = rw (fresh-run, refusal-same ended a ended-fits h) (time-never-full source clock clock-fits l readings-fit a r)
 
   -- demand 3: the mode that is read is the one that the list of accepted observations reads as
   pub reads-words : (m : GovernorMode) → (modeRead (wordsRun (freshAfter ws clock) l) ≡ modeNumber m) ↔ ReadsAs source (list clock l) m

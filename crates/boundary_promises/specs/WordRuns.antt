@@ -80,10 +80,6 @@ Handed (choose kind) = Unit {0}
 Handed (focus f) = (focusLevel (f .«current_focus») ≤ 2 ^ 32 - 1) × (f .streak ≤ 2 ^ 32 - 1)
 Handed (snapshot now) = Unit {0}
 
-abbrev pub EachHanded : List Action → Type 0
-EachHanded [] = Unit {0}
-EachHanded (a ∷ l) = Handed a × EachHanded l
-
 -- what the times in the words come to
 abbrev pub totalRead : List ℕ → ℕ
 totalRead ws = totalOf (stateIn ws .times)

@@ -25,9 +25,9 @@ use Rattle.engine.specs.Engine.{sampleOf, engineChecks, engineFault, engineOf}
 use Rattle.report.specs.Counters.{chosenOf, moveChecks, moveFault, trivialMoveOf, outcomeChecks, outcomeFault, outcomeOf}
 use Rattle.snapshot.specs.Snapshot.{snapshotChecks, snapshotFault, snapshotOf, snapshotRefusal}
 use Rattle.governor_promises.specs.Reading.{Observation, sampled, counted}
-use Rattle.governor_promises.specs.Calls.{Action, observe, move, outcome, choose, focus, snapshot, acted, after, accepted}
+use Rattle.governor_promises.specs.Calls.{Action, observe, move, outcome, choose, focus, snapshot, EachCall, acted, after, accepted}
 use Rattle.governor_promises.specs.Counts.{gathered}
-use Rattle.governor_promises.specs.Times.{reading, highestOf, highest, Reads, EachReads, fullBesideTime}
+use Rattle.governor_promises.specs.Times.{reading, highestOf, highest, ReadingFits, fullBesideTime}
 use Rattle.governor_promises.proofs.Answers.{Says, by-fault, by-same, newOf, by-answer, snapshot-fault}
 use Rattle.governor_promises.proofs.Counts.{one, gather-one}
 
@@ -88,7 +88,7 @@ module _ (G : Tuning) (start : ℕ) where
     observes now (sampled x) k = adds-same start _ (max high now) _ (omega arith) (times-add start high now (s .mode) (s .times) h k)
     observes now (counted e a) k = adds-same start _ (max high now) _ (omega arith) (times-add start high now (s .mode) (s .times) h k)
 
-    next : (a : Action) → Reads a → Says (Next a) (acted G s a)
+    next : (a : Action) → ReadingFits a → Says (Next a) (acted G s a)
     unfolding trivialMoveOf outcomeOf chosenOf highestOf
     next (observe now o) k = by-answer (Next (observe now o)) G s now o (observes now o k) still
     next (move bytes) k = by-fault (Next (move bytes)) (moveFault s) s _ still still
@@ -99,7 +99,7 @@ module _ (G : Tuning) (start : ℕ) where
     next (focus f) k = still
     next (snapshot now) k = by-same (Next (snapshot now)) (snapshotRefusal (snapshotOf s now)) s still still
 
-  all : (s : GovernorState) (high : ℕ) (l : List Action) → EachReads l → Adds start high (s .times) → Adds start (max high (highestOf (gathered reading G s l))) (after G s l .times)
+  all : (s : GovernorState) (high : ℕ) (l : List Action) → EachCall ReadingFits l → Adds start high (s .times) → Adds start (max high (highestOf (gathered reading G s l))) (after G s l .times)
   unfolding after accepted flatMap highestOf
   all s high [] k h = still s high h
   all s high (a ∷ l) k h =
@@ -107,13 +107,13 @@ module _ (G : Tuning) (start : ℕ) where
       let b = eqb (acted G s a .refusal) none in
       adds-same start _ _ _ (omega (arith, highest-one b a (accepted G t l))) (all t _ l (k .1) (next s high h a (k .0)))
 
-  module _ (fresh : start < 2 ^ 64) (l : List Action) (read : EachReads l) where
+  module _ (start-fits : start < 2 ^ 64) (l : List Action) (readings-fit : EachCall ReadingFits l) where
     abbrev ended : GovernorState
     ended = after G (freshOf start) l
 
     added : Adds start (highest G start l) (ended .times)
     unfolding highestOf
-    added = all (freshOf start) start l read (omega arith, refl, fresh)
+    added = all (freshOf start) start l readings-fit (omega arith, refl, start-fits)
 
     pub times-add-up : totalOf (ended .times) + start ≡ highest G start l
     times-add-up = added .0
@@ -127,9 +127,9 @@ module _ (G : Tuning) (start : ℕ) where
     time-check now k = le-ltb (2 ^ 64 - 1) _ (fits start (highest G start l) now (ended .mode) (ended .times) added k)
 
     -- so a call that answers 3 has another sum that is full, and no snapshot answers it
-    pub time-never-full : (a : Action) → Reads a → acted G ended a .refusal ≡ counterFull → T (fullBesideTime G ended a)
+    pub time-never-full : (a : Action) → ReadingFits a → acted G ended a .refusal ≡ counterFull → T (fullBesideTime G ended a)
     unfolding observedOf observeFault engineOf engineFault countersFull trivialMoveOf outcomeOf snapshotFault anyOf
-    time-never-full (observe now (sampled x)) k = only (observeChecks G ended now x) (switchesFull G ended x) (λ e. rw (e, time-check now k))
+    time-never-full (observe now (sampled x)) k = only (observeChecks G ended now x) (fullBesideTime G ended (observe now (sampled x))) (λ e. rw (e, time-check now k))
     time-never-full (observe now (counted e a)) k =
         only (engineChecks G ended now e a) (fullBesideTime G ended (observe now (counted e a)))
         (λ f. let parts = neither (ltb (2 ^ 64 - 1) (probedSum a)) (switchesFull G ended (sampleOf ended e a)) f in rw (parts .0, parts .1, time-check now k))

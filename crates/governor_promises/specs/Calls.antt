@@ -27,6 +27,11 @@ pub data Action : Type 0 where
   focus : FocusState → Action
   snapshot : ℕ → Action
 
+-- each call of a run
+abbrev pub EachCall : (Action → Type 0) → List Action → Type 0
+EachCall P [] = Unit {0}
+EachCall P (a ∷ l) = P a × EachCall P l
+
 abbrev pub answerOf : Tuning → GovernorState → ℕ → Observation → Observed
 answerOf G s now (sampled x) = observedOf G s now x
 answerOf G s now (counted e a) = engineOf G s now e a

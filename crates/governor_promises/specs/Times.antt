@@ -13,7 +13,7 @@ use Rattle.governor_promises.specs.Reading.{sampled, counted}
 use Rattle.governor_promises.specs.Calls.{Action, observe, move, outcome, choose, focus, snapshot}
 use Rattle.governor_promises.specs.Counts.{gathered}
 
--- the reading of an observation
+-- what a call adds to the readings seen: an observation its own, a snapshot none
 abbrev pub reading : Action → List ℕ
 reading (observe now o) = now ∷ []
 reading (move bytes) = []
@@ -31,17 +31,13 @@ abbrev pub highest : Tuning → ℕ → List Action → ℕ
 highest G start l = highestOf (start ∷ gathered reading G (freshOf start) l)
 
 -- a reading is handed in as a u64
-abbrev pub Reads : Action → Type 0
-Reads (observe now o) = now < 2 ^ 64
-Reads (move bytes) = Unit {0}
-Reads (outcome predicted actual) = Unit {0}
-Reads (choose kind) = Unit {0}
-Reads (focus f) = Unit {0}
-Reads (snapshot now) = now < 2 ^ 64
-
-abbrev pub EachReads : List Action → Type 0
-EachReads [] = Unit {0}
-EachReads (a ∷ l) = Reads a × EachReads l
+abbrev pub ReadingFits : Action → Type 0
+ReadingFits (observe now o) = now < 2 ^ 64
+ReadingFits (move bytes) = Unit {0}
+ReadingFits (outcome predicted actual) = Unit {0}
+ReadingFits (choose kind) = Unit {0}
+ReadingFits (focus f) = Unit {0}
+ReadingFits (snapshot now) = now < 2 ^ 64
 
 -- a call's test for 3, its time left out
 abbrev pub fullBesideTime : Tuning → GovernorState → Action → Bool
