@@ -41,19 +41,20 @@ extern "C" {
 #define COINHAMPER_MOST_REPLAY_BYTES 1179648
 
 enum {
-    COINHAMPER_NONE = 0,           /* accepted */
-    COINHAMPER_BAD_STATE = 1,      /* a streak that the state's mode can't have: the words were altered; start afresh */
-    COINHAMPER_TOO_LARGE = 2,      /* a count above 2^53 that is to become a float: no true count; see where it comes from */
-    COINHAMPER_COUNTER_FULL = 3,   /* a counter, the sum of probes or an altered time would pass 2^64 - 1: mend the read counters, or start afresh */
-    COINHAMPER_TOO_MANY = 4,       /* over 1,024 tables, 16 entries, 145 candidates, 1,024 numbers of one, 4,096 lines of a log's text: lend fewer */
-    COINHAMPER_BAD_RECORD = 5,     /* a part record, unpaired buffers, a field out of its range, a bad line: mend what is lent */
-    COINHAMPER_BAD_LEVEL = 6,      /* an over-budget level above 2^32 - 2, which has none below it: leave it out */
-    COINHAMPER_BAD_VECTOR = 7,     /* a pressure that isn't in 0 to 1: hand over those that coinhamper_read answers */
-    COINHAMPER_BAD_ESTIMATE = 8,   /* a relief that isn't in 0 to 1, a rewrite above 2^50, an age above 2^53: estimate anew */
-    COINHAMPER_NO_ROOM = 9,        /* a buffer is too short for the answer: lend more */
-    COINHAMPER_BAD_LOG = 10,       /* the head isn't 3 words, the words aren't 57,344, first is above 4,095 or count above 4,096: start an empty log */
-    COINHAMPER_NOT_A_STATE = 100,  /* the words are no governor of this version: lend coinhamper_state_words() words, made by coinhamper_fresh */
-    COINHAMPER_NO_SUCH_CASE = 101  /* a number that stands for no mode, kind, focus or choice: mend the call */
+    COINHAMPER_NONE = 0,              /* accepted */
+    COINHAMPER_BAD_STATE = 1,         /* a streak that the state's mode can't have: the words were altered; start afresh */
+    COINHAMPER_TOO_LARGE = 2,         /* a count above 2^53 that is to become a float: no true count; see where it comes from */
+    COINHAMPER_COUNTER_FULL = 3,      /* a counter, the sum of probes or an altered time would pass 2^64 - 1: mend the read counters, or start afresh */
+    COINHAMPER_TOO_MANY = 4,          /* over 1,024 tables, 16 entries, 145 candidates, 1,024 numbers of one, 4,096 lines of a log's text: lend fewer */
+    COINHAMPER_BAD_RECORD = 5,        /* a part record, unpaired buffers, a field out of its range, a bad line: mend what is lent */
+    COINHAMPER_BAD_LEVEL = 6,         /* an over-budget level above 2^32 - 2, which has none below it: leave it out */
+    COINHAMPER_BAD_VECTOR = 7,        /* a pressure that isn't in 0 to 1: hand over those that coinhamper_read answers */
+    COINHAMPER_BAD_ESTIMATE = 8,      /* a relief that isn't in 0 to 1, a rewrite above 2^50, an age above 2^53: estimate anew */
+    COINHAMPER_NO_ROOM = 9,           /* a buffer is too short for the answer: lend more */
+    COINHAMPER_BAD_LOG = 10,          /* the head isn't 3 words, the words aren't 57,344, first is above 4,095 or count above 4,096: start an empty log */
+    COINHAMPER_DUPLICATE_NUMBER = 11, /* two tables have one number, whatever their levels: lend each table once, under a number that no other has */
+    COINHAMPER_NOT_A_STATE = 100,     /* the words are no governor of this version: lend coinhamper_state_words() words, made by coinhamper_fresh */
+    COINHAMPER_NO_SUCH_CASE = 101     /* a number that stands for no mode, kind, focus or choice: mend the call */
 };
 
 /* Answers a number: the version of the library. It counts up whenever a signature, the words of a state or the meaning of a number changes. */
@@ -107,12 +108,12 @@ uint64_t coinhamper_dominant(double l0, double deep_debt, double read);
 
 /* The next merge. A table's keys are parts of `keys`; an entry is a level and its budget. */
 
-/* 4, 5, 6, 9. Six words to a candidate, its table numbers in `numbers`; how many of each in the two counts. */
+/* 4, 5, 11, 6, 9. Six words to a candidate, its table numbers in `numbers`; how many of each in the two counts. */
 uint64_t coinhamper_generate_candidates(const uint64_t *tables, size_t tables_len, const uint8_t *keys, size_t keys_len, uint64_t l0_compaction_trigger,
                                         const uint64_t *over_budget_levels, size_t over_budget_levels_len, uint64_t *candidates, size_t candidates_len,
                                         uint64_t *numbers, size_t numbers_len, size_t *candidate_count, size_t *number_count);
 
-/* 4, 5, 6, 2, 9. Nine words to each candidate, in order. */
+/* 4, 5, 11, 6, 2, 9. Nine words to each candidate, in order. A candidate may name a number more than once, and it counts each time. */
 uint64_t coinhamper_estimate_candidates(const uint64_t *tables, size_t tables_len, uint64_t next_file_number, const uint64_t *over_budget_levels,
                                         size_t over_budget_levels_len, const uint64_t *candidates, size_t candidates_len, const uint64_t *numbers,
                                         size_t numbers_len, uint64_t *estimates, size_t estimates_len);

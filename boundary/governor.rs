@@ -3,8 +3,8 @@
 //!
 //! A call that the library can refuse has two names. `try_NAME` answers the refusal. `NAME` has the original's signature, which has no room for
 //! one, so it falls back as its `Fallback` says and counts that: `GovernorState::fallbacks` for a governor's calls, `fallbacks()` for the three of
-//! a plan. No refusal ever comes out as nothing to merge. Counted fallbacks that keep growing are worth a look; `Fallbacks::last` says what the
-//! last one was refused for.
+//! a plan. One refusal comes out as nothing to merge, 11 for two tables with one number (`NothingOffered`); no other does. Counted fallbacks that
+//! keep growing are worth a look; `Fallbacks::last` says what the last one was refused for.
 //!
 //! Trusted, and not proved:
 //! - that the archive is the one whose proof was checked, and that the declarations in `library` are its exports (boundary/run compares them with
@@ -245,6 +245,7 @@ const COUNTER_FULL: Refusal = Refusal(3);
 const TOO_MANY: Refusal = Refusal(4);
 const BAD_RECORD: Refusal = Refusal(5);
 const BAD_LEVEL: Refusal = Refusal(6);
+const DUPLICATE_NUMBER: Refusal = Refusal(11);
 
 impl Refusal {
     /// Its name, why it is given, and what to do.
@@ -260,6 +261,7 @@ impl Refusal {
             8 => ("BadEstimate", "a relief isn't from 0 to 1, a rewrite above 2^50 or an age above 2^53", "hand in what `estimate_candidate` gives"),
             9 => ("NoRoom", "an output buffer is too short", "report it: this file lends enough"),
             10 => ("BadLog", "the log's words are no log", "make a new governor: something else has written to this one's log"),
+            11 => ("DuplicateNumber", "two of the tables have one number", "hand in each table once, under a number that no other has"),
             100 => ("NotAState", "the state's words are no governor of the library's version", "link the archive that this file came with"),
             101 => ("NoSuchCase", "a number stands for no mode, kind, focus or choice", "link the archive that this file came with"),
             _ => ("Unknown", "this file has no such refusal", "take the file that came with the linked archive"),
@@ -307,7 +309,11 @@ pub enum Fallback {
     LevelInPart,
     /// `generate_candidates`: one table overlaps over 1,023 tables below. The candidate of that one table is made here by the original's rule.
     BuiltHere,
-    /// `estimate_candidate`: worked out here by the original's rule, where sums that the original lets overflow stay at 2^64 - 1.
+    /// `generate_candidates`: two tables have one number, so no candidate is offered. A merge names its tables by number: one that names this number
+    /// could take the wrong table, and one that is made without the two could leave out a table that it overlaps. The original goes on.
+    NothingOffered,
+    /// `estimate_candidate`: worked out here by the original's rule, by which the first of two tables with one number is taken for both; sums that
+    /// the original lets overflow stay at 2^64 - 1.
     EstimatedHere,
     /// `pick_best_cause_aware`: chosen here by the original's rule, on the library's scores: the original's answer for any number of candidates and
     /// any estimates, but that a NaN of an infinity's making sorts above all scores on every machine.
@@ -315,7 +321,7 @@ pub enum Fallback {
 }
 
 impl Fallback {
-    pub const ALL: [Fallback; 11] = [
+    pub const ALL: [Fallback; 12] = [
         Fallback::CountsHalved,
         Fallback::ReadsHeld,
         Fallback::NotRecorded,
@@ -325,6 +331,7 @@ impl Fallback {
         Fallback::LevelSplit,
         Fallback::LevelInPart,
         Fallback::BuiltHere,
+        Fallback::NothingOffered,
         Fallback::EstimatedHere,
         Fallback::ChosenHere,
     ];
@@ -980,6 +987,26 @@ fn entries(over: &[(u32, u64)]) -> Vec<u64> {
     over.iter().flat_map(|&(level, budget)| [level as u64, budget]).collect()
 }
 
+fn number_twice(tables: &[TableInfo]) -> bool {
+    let mut numbers: Vec<u64> = tables.iter().map(|t| t.number).collect();
+    numbers.sort_unstable();
+    numbers.windows(2).any(|two| two[0] == two[1])
+}
+
+/// What the library refuses a list for, in its order, where it is to see only parts of the list.
+fn refused_whole(tables: &[TableInfo], over: &[(u32, u64)]) -> Result<(), Refusal> {
+    if tables.iter().any(|t| t.size > MOST_SIZE) {
+        return Err(BAD_RECORD);
+    }
+    if number_twice(tables) {
+        return Err(DUPLICATE_NUMBER);
+    }
+    if over.iter().any(|&(level, _)| level == u32::MAX) {
+        return Err(BAD_LEVEL);
+    }
+    Ok(())
+}
+
 /// The tables of a level whose keys meet the range of some others, in table order.
 fn overlapping<'t>(tables: &'t [TableInfo], level: u32, others: &[&TableInfo]) -> Vec<&'t TableInfo> {
     let lo = others.iter().map(|t| t.first_key.as_slice()).min();
@@ -1007,6 +1034,7 @@ impl<'t> Plan<'t> {
             self.ask(self.tables.iter(), self.l0_compaction_trigger as u64, over, &mut out)?;
             return Ok(out);
         }
+        refused_whole(self.tables, over)?;
         self.level_zero(&mut out)?;
         for &entry in over {
             self.level(entry, &mut out)?;
@@ -1178,7 +1206,8 @@ fn free<'t>(by_key: &[&'t TableInfo], mut below: Vec<&TableInfo>) -> Vec<&'t Tab
 }
 
 /// Past 1,024 tables or 16 entries the library is asked level by level, and a level that is too crowded in parts (`LevelSplit`), which changes no
-/// answer. Refused with 4 for a merge of over 1,024 tables, with 5 for a size above 2^40, with 6 for an over-budget level of 2^32 - 1.
+/// answer. Refused, by the whole list whatever its size, with 5 for a size above 2^40, with 11 for two tables with one number, with 6 for an
+/// over-budget level of 2^32 - 1, the first of these; only then with 4 for a merge of over 1,024 tables.
 pub(crate) fn try_generate_candidates(
     tables: &[TableInfo],
     l0_compaction_trigger: usize,
@@ -1189,7 +1218,7 @@ pub(crate) fn try_generate_candidates(
 }
 
 /// Falls back by `LevelLeftOut`, `SizesRanked`, `LevelSplit`, `LevelInPart` and `BuiltHere`: wherever the original has candidates for a level this
-/// has some of them.
+/// has some of them. By `NothingOffered` it has none, whatever else the list is refused for.
 pub(crate) fn generate_candidates(
     tables: &[TableInfo],
     l0_compaction_trigger: usize,
@@ -1202,6 +1231,10 @@ pub(crate) fn generate_candidates(
 
 #[cold]
 fn generate_mended(tables: &[TableInfo], l0_compaction_trigger: usize, over_budget_levels: &[(u32, u64)]) -> Vec<Candidate> {
+    if number_twice(tables) {
+        OF_PLANS.note(Fallback::NothingOffered, DUPLICATE_NUMBER);
+        return Vec::new();
+    }
     let mut ranks = None;
     if tables.iter().any(|t| t.size > MOST_SIZE) {
         OF_PLANS.note(Fallback::SizesRanked, BAD_RECORD);
@@ -1214,9 +1247,10 @@ fn generate_mended(tables: &[TableInfo], l0_compaction_trigger: usize, over_budg
 
 // ---- estimates
 
-/// Past 1,024 tables or 16 entries only what the estimate depends on is handed in, which changes no answer. Refused with 4 for over 1,024 numbers,
-/// or where the level is over budget by more than the tables that are left to say so (2^40 bytes each); with 5 for a size above 2^40 or a batch
-/// length outside 1 to 8; with 6 for an over-budget level of 2^32 - 1; with 2 for a next number above 2^53.
+/// Past 1,024 tables or 16 entries only what the estimate depends on is handed in, which changes no answer. Refused, by the whole list whatever its
+/// size, with 4 for over 1,024 numbers, with 5 for a size above 2^40 or a batch length outside 1 to 8, with 11 for two tables with one number, with
+/// 6 for an over-budget level of 2^32 - 1, the first of these; only then with 4 where the level is over budget by more than the tables that are left
+/// to say so (2^40 bytes each), and with 2 for a next number above 2^53. The candidate may name a number more than once, and it counts each time.
 pub(crate) fn try_estimate_candidate(
     tables: &[TableInfo],
     candidate: &Candidate,
@@ -1236,6 +1270,12 @@ pub(crate) fn try_estimate_candidate(
         return estimate(&all, over_budget_levels);
     }
 
+    // What the library can't tell by a part comes first: what the candidate is refused for by itself, then what the lists are.
+    if let Err(why @ (TOO_MANY | BAD_RECORD)) = estimate(&[], &[]) {
+        return Err(why);
+    }
+    refused_whole(tables, over_budget_levels)?;
+
     // The tables that the candidate names, and of its level's others the bytes.
     let level = candidate.kind.level();
     let named: HashSet<u64> = numbers.iter().copied().collect();
@@ -1252,14 +1292,14 @@ pub(crate) fn try_estimate_candidate(
     // Only bytes less budget count: what the others' bytes take off the budget need not be said by tables.
     let covered = rest.min(budget as u128);
     let mut surplus = rest - covered;
-    let room = MOST_TABLES.saturating_sub(handed.len() / 7);
-    if surplus > room as u128 * MOST_SIZE as u128 {
+    let told_by = surplus.div_ceil(MOST_SIZE as u128) as usize;
+    if told_by > MOST_TABLES.saturating_sub(handed.len() / 7) {
         return Err(TOO_MANY);
     }
-    let unnamed = (0..).find(|n| !named.contains(n)).unwrap_or_default();
-    while surplus > 0 {
+    // Each under a number of its own that the candidate doesn't name.
+    for number in (0..).filter(|n| !named.contains(n)).take(told_by) {
         let size = surplus.min(MOST_SIZE as u128);
-        handed.extend_from_slice(&[unnamed, level as u64, size as u64, 0, 0, 0, 0]);
+        handed.extend_from_slice(&[number, level as u64, size as u64, 0, 0, 0, 0]);
         surplus -= size;
     }
     estimate(&handed, &[(level, budget - covered as u64)])

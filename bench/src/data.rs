@@ -116,15 +116,19 @@ pub fn four_levels(n: u64, seed: u64) -> Vec<Table> {
     numbered(&mut d, out)
 }
 
-/// Few or no tables, with short keys of few letters, so that keys, numbers and sizes come twice and ranges meet.
+/// Few or no tables, with short keys of few letters, so that keys and sizes come twice and ranges meet; numbers with gaps, in random order.
 pub fn odd_tables(d: &mut Dice) -> Vec<Table> {
     let (n, letters, longest, levels) = (d.below(40), 1 + d.below(3), 1 + d.below(4), 1 + d.below(4));
-    (0..n)
-        .map(|_| {
+    let gap = 1 + d.below(4);
+    let mut numbers: Vec<u64> = (0..n).map(|i| i * gap + d.below(gap)).collect();
+    d.shuffle(&mut numbers);
+    numbers
+        .into_iter()
+        .map(|number| {
             let mut ends = [0, 1].map(|_| (0..d.below(longest + 1)).map(|_| b'a' + d.below(letters) as u8).collect::<Vec<u8>>());
             ends.sort();
             let [first, last] = ends;
-            Table { number: d.below(2 * n), level: d.below(levels), size: d.below(4) << d.below(20), first, last }
+            Table { number, level: d.below(levels), size: d.below(4) << d.below(20), first, last }
         })
         .collect()
 }

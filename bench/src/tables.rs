@@ -178,7 +178,7 @@ fn sorted_level(tables: &[rust::TableInfo], level: u32) -> Vec<&rust::TableInfo>
     by_key
 }
 
-/// Compared by place, since numbers may come twice.
+/// Compared by place, as the port answers.
 fn sorted(tables: &[Table], level: u64) {
     let (words, keys) = data::words(tables);
     let infos = infos(tables);

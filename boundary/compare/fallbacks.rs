@@ -5,7 +5,7 @@ use crate::numbers::Dice;
 use crate::plans::{self, Plan};
 use crate::runs::{MOST_COUNT, Pair, sample};
 use crate::sides::dropin::{Fallback, Refusal};
-use crate::sides::{Call, Found, Sample, Table, dropin, original};
+use crate::sides::{Call, Found, Over, Sample, Table, dropin, original};
 use crate::{differ, holds, same, same_list};
 use std::sync::atomic::{AtomicU64, Ordering::Relaxed};
 
@@ -128,8 +128,14 @@ fn of_plans() -> &'static dropin::Fallbacks {
 }
 
 fn any_plan(d: &mut Dice, size: &dyn Fn(&mut Dice) -> u64) -> Plan {
-    let (levels, n) = (1 + d.below(5), 1 + d.below(40));
-    Plan { tables: plans::tables(d, n, levels, size), trigger: d.below(8) as usize, over: plans::entries(d, 4, levels), next: 3 * n }
+    let n = 1 + d.below(40);
+    plan_of(d, n, 4, size)
+}
+
+fn plan_of(d: &mut Dice, n: u64, most_entries: u64, size: &dyn Fn(&mut Dice) -> u64) -> Plan {
+    let levels = 1 + d.below(5);
+    let tables = plans::tables(d, n, levels, size);
+    Plan { trigger: d.below(8) as usize, over: plans::entries(d, most_entries, levels), next: plans::next(d, &tables), tables }
 }
 
 /// The answer is the original's without that entry.
@@ -196,6 +202,102 @@ fn estimated_here(d: &mut Dice) {
     same("the relief of such a sum", f64::from_bits(e[7]), 1.0);
 }
 
+/// Both calls' refusals.
+fn tried(plan: &Plan, over: &Over, found: &Found) -> [Option<Refusal>; 2] {
+    let tables = dropin::tables(&plan.tables);
+    let generated = dropin::try_generate_candidates(&tables, plan.trigger, over, plan.next);
+    let estimated = dropin::try_estimate_candidate(&tables, &dropin::candidate(found), plan.next, over);
+    [generated.err(), estimated.err()]
+}
+
+/// Two tables with one number, wherever they stand: nothing is offered, and an estimate is the original's. 4 and 5 come before 11, 6 and 2 after it.
+fn number_twice(d: &mut Dice) {
+    let n = match d.below(8) {
+        0 => 1024,
+        1 => 1025 + d.below(300),
+        _ => 2 + d.below(40),
+    };
+    let most_entries = d.pick(&[4, 4, 4, 24]);
+    let mut plan = plan_of(d, n, most_entries, &plans::size);
+    let number_at = |place: &usize| plan.tables[*place].number;
+    let (any, smallest) = (d.below(n) as usize, (0..n as usize).min_by_key(number_at).unwrap_or(0));
+    let (a, apart) = (d.pick(&[0, any, smallest]), 1 + d.below(n - 1) as usize);
+    let b = (a + d.pick(&[1, n as usize - 1, apart])) % n as usize;
+    let number = d.pick(&[0, u64::MAX, number_at(&a), number_at(&a)]);
+    let unasked = d.one_in(4);
+    for place in [a, b] {
+        let t = &mut plan.tables[place];
+        t.number = number;
+        if unasked {
+            t.level = 7 + d.below(2) as u32;
+        }
+    }
+    let mut found = plans::odd_candidate(d, &plan.tables, 9);
+    let why = match d.below(8) {
+        0 => {
+            plan.tables[d.below(n) as usize].size += 1 << 41;
+            [5, 5]
+        }
+        1 => {
+            plan.over.push((u32::MAX, 0));
+            [11, 11]
+        }
+        2 => {
+            plan.next = MOST_COUNT + 1 + d.below(1 << 40);
+            [11, 11]
+        }
+        3 => {
+            found.kind = (2, d.below(9) as u32, d.pick(&[0, 9, 1 << 40]));
+            [11, 5]
+        }
+        4 => {
+            found.numbers = vec![number; 1025];
+            [11, 4]
+        }
+        _ => [11, 11],
+    };
+    same("the refusals of a number that comes twice", tried(&plan, &plan.over, &found), why.map(|r| Some(Refusal(r))));
+    let sides = plan.sides();
+    let offered = counts(&of_plans, Fallback::NothingOffered, 11, || dropin::generate(&sides.module, plan.trigger, &plan.over, plan.next));
+    same_list("the candidates with a number that comes twice", &offered, &[]);
+    let e = counts(&of_plans, Fallback::EstimatedHere, why[1], || dropin::estimate(&sides.module, &found, plan.next, &plan.over));
+    same("the estimate with a number that comes twice", e, original::estimate(&sides.original, &found, plan.next, &plan.over));
+}
+
+/// A candidate may name a number again, in lists of any size: the library takes it, and it counts each time.
+fn named_twice(d: &mut Dice) {
+    let n = if d.one_in(4) { 1025 + d.below(300) } else { 1 + d.below(40) };
+    let plan = plan_of(d, n, 4, &plans::size);
+    let mut found = plans::odd_candidate(d, &plan.tables, 5);
+    found.numbers.push(plan.tables[d.below(n) as usize].number);
+    found.numbers = found.numbers.repeat(2 + d.below(40) as usize);
+    let before = of_plans().total();
+    plan.estimated(&plan.sides(), &[found]);
+    same("the fallbacks of a candidate that names a number again", of_plans().total(), before);
+}
+
+/// Where the library sees only parts of a list, the whole is refused as one question about it would be, also for what is in no part: 5 before 6.
+fn refused_whole(d: &mut Dice) {
+    let n = if d.one_in(2) { 1025 + d.below(300) } else { 1 + d.below(40) };
+    let mut plan = plan_of(d, n, 4, &plans::size);
+    if n <= 1024 {
+        plan.over.extend((0..17).map(|_| (d.below(6) as u32, d.next() >> 20)));
+    }
+    let mut over = plan.over.clone();
+    over.insert(d.below(over.len() as u64 + 1) as usize, (u32::MAX, 0));
+    let unnamed = Found { kind: (2, 1, 1), numbers: vec![], output_level: 2 };
+    for why in [6, 5] {
+        if why == 5 {
+            let t = &mut plan.tables[d.below(n) as usize];
+            (t.level, t.size) = (9, (1 << 40) + 1 + d.below(1 << 40));
+        }
+        same("the refusals of a whole list", tried(&plan, &over, &unnamed), [Some(Refusal(why)); 2]);
+        let sides = plan.sides();
+        let found = dropin::generate(&sides.module, plan.trigger, &over, plan.next);
+        large::held(&plan, &found, &original::generate(&sides.original, plan.trigger, &plan.over, plan.next));
+    }
+}
+
 /// The choice is the original's, whatever is handed in.
 fn chosen_here(d: &mut Dice) {
     let (mut v, f) = (plans::vector(d), plans::focus(d, 4));
@@ -241,6 +343,7 @@ fn texts(_: &mut Dice) {
         (8, "BadEstimate"),
         (9, "NoRoom"),
         (10, "BadLog"),
+        (11, "DuplicateNumber"),
         (100, "NotAState"),
         (101, "NoSuchCase"),
         (77, "Unknown"),
@@ -275,8 +378,20 @@ fn crowded(d: &mut Dice) {
     plan.estimated(&sides, &found);
 }
 
-const CASES: [fn(&mut Dice); 9] =
-    [counts_halved, reads_held, outcomes_halved, batch_not_recorded, level_left_out, sizes_ranked, estimated_here, chosen_here, crowded];
+const CASES: [fn(&mut Dice); 12] = [
+    counts_halved,
+    reads_held,
+    outcomes_halved,
+    batch_not_recorded,
+    level_left_out,
+    sizes_ranked,
+    estimated_here,
+    number_twice,
+    named_twice,
+    refused_whole,
+    chosen_here,
+    crowded,
+];
 
 pub fn fallback(d: &mut Dice) -> u64 {
     texts(d);

@@ -1,9 +1,10 @@
 //! Plans of over 1,024 tables, crowded and not. The module gives the original's candidates wherever each has at most 1,024 numbers; where one has
 //! more, some of them, and never none.
 use crate::numbers::Dice;
-use crate::plans::{self, Plan, Sides, focus, vector};
+use crate::plans::{self, Plan, Sides, focus, shuffle, vector};
 use crate::sides::{Estimate, Found, Over, Table, dropin, original};
 use crate::{same, same_list};
+use std::collections::HashSet;
 
 const MOST: usize = 1024;
 const SPACE: u64 = 1 << 40;
@@ -25,13 +26,9 @@ fn side_by_side(d: &mut Dice, out: &mut Vec<Table>, level: u32, count: u64) {
 
 /// Numbers and order at random; no number twice.
 fn shuffled(d: &mut Dice, mut tables: Vec<Table>) -> Vec<Table> {
-    for i in (1..tables.len()).rev() {
-        tables.swap(i, d.below(i as u64 + 1) as usize);
-    }
+    shuffle(d, &mut tables);
     let mut numbers: Vec<u64> = (0..tables.len() as u64).map(|n| 3 * n + 1).collect();
-    for i in (1..numbers.len()).rev() {
-        numbers.swap(i, d.below(i as u64 + 1) as usize);
-    }
+    shuffle(d, &mut numbers);
     for (t, n) in tables.iter_mut().zip(numbers) {
         t.number = n;
     }
@@ -92,12 +89,12 @@ fn plan(d: &mut Dice, shape: u64, n: u64) -> Plan {
             side_by_side(d, &mut t, 3, n);
             vec![3, 3]
         }
-        // odd keys, numbers twice
+        // odd keys and numbers
         _ => {
             let levels = 1 + d.below(5);
             let tables = plans::tables(d, n, levels, &plans::size);
             let entries = plans::entries(d, 4, levels);
-            return Plan { tables, trigger: d.below(9) as usize, over: entries, next: 3 * n };
+            return Plan { trigger: d.below(9) as usize, over: entries, next: plans::next(d, &tables), tables };
         }
     };
     let mut tables = shuffled(d, t);
@@ -118,7 +115,7 @@ fn met<'t>(tables: &'t [Table], level: u32, others: &[&Table]) -> Vec<&'t Table>
 /// L0 in part: its oldest tables in table order, then what they overlap in level 1; as many as fit, but at least one.
 fn oldest_part(tables: &[Table]) -> Vec<u64> {
     let mut by_age: Vec<usize> = (0..tables.len()).filter(|&i| tables[i].level == 0).collect();
-    by_age.sort_by_key(|&i| (tables[i].number, i));
+    by_age.sort_by_key(|&i| tables[i].number);
     let with_below = |count: usize| {
         let mut places = by_age[..count].to_vec();
         places.sort();
@@ -188,12 +185,25 @@ fn compared(d: &mut Dice, plan: &Plan) -> u64 {
     chosen(d, plan, &sides, &found)
 }
 
+/// Too much for the library: over 1,024 numbers, or more bytes over budget than the tables that are left can say.
+fn too_much(plan: &Plan, f: &Found) -> bool {
+    let named: HashSet<u64> = f.numbers.iter().copied().collect();
+    let (handed, others): (Vec<&Table>, Vec<&Table>) = plan.tables.iter().partition(|t| named.contains(&t.number));
+    let bytes: u64 = others.iter().filter(|t| t.level == f.kind.1).map(|t| t.size).sum();
+    let budget = plan.over.iter().find(|entry| f.kind.0 != 1 && entry.0 == f.kind.1).map_or(u64::MAX, |entry| entry.1);
+    f.numbers.len() > MOST || bytes.saturating_sub(budget).div_ceil(plans::MOST_SIZE) > (MOST - handed.len()) as u64
+}
+
 fn chosen(d: &mut Dice, plan: &Plan, sides: &Sides, found: &[Found]) -> u64 {
     // the original looks through all tables for each number: too long where both are many
     let found: Vec<Found> = found.iter().filter(|f| f.numbers.len() * plan.tables.len() < 30_000_000).cloned().collect();
     let odd: Vec<Found> = (0..6).map(|_| plans::odd_candidate(d, &plan.tables, 4)).collect();
+    let here = || dropin::fallbacks().count(dropin::Fallback::EstimatedHere);
+    let before = here();
     plan.estimated(sides, &odd);
     let estimates = plan.estimated(sides, &found);
+    let without = odd.iter().chain(&found).filter(|f| too_much(plan, f)).count() as u64;
+    same("how many estimates were made without the library", here() - before, without);
     let offered: Vec<(Found, Estimate)> = found.into_iter().zip(estimates).collect();
     let (v, f) = (vector(d), focus(d, 4));
     same("pick_best_cause_aware", dropin::pick(v, f, &offered), original::pick(v, f, &offered));

@@ -43,20 +43,52 @@ pub fn key(d: &mut Dice, letters: u64, longest: u64) -> Vec<u8> {
     (0..d.below(longest + 1)).map(|_| d.pick(&[0, b'a', b'b', b'z', 127, 128, 254, 255][..letters as usize])).collect()
 }
 
-/// Short keys of few letters, so that keys, numbers and sizes come twice and ranges meet; some ranges end before they start.
+/// No number twice: side by side, or with gaps small or large; at times from 0 on or up to 2^64 - 1; rising, or in any order.
+fn numbers(d: &mut Dice, n: u64) -> Vec<u64> {
+    let gap = if d.one_in(4) { 1 << d.below(50) } else { 1 + d.below(4) };
+    let mut numbers: Vec<u64> = (0..n).map(|i| i * gap + d.below(gap)).collect();
+    if n > 0 && d.one_in(4) {
+        numbers[0] = 0;
+    }
+    if n > 0 && d.one_in(4) {
+        numbers[n as usize - 1] = u64::MAX;
+    }
+    if !d.one_in(4) {
+        shuffle(d, &mut numbers);
+    }
+    numbers
+}
+
+pub fn shuffle<T>(d: &mut Dice, all: &mut [T]) {
+    for i in (1..all.len()).rev() {
+        all.swap(i, d.below(i as u64 + 1) as usize);
+    }
+}
+
+/// Short keys of few letters, so that keys and sizes come twice and ranges meet; some ranges end before they start.
 pub fn tables(d: &mut Dice, n: u64, levels: u64, size: &dyn Fn(&mut Dice) -> u64) -> Vec<Table> {
-    let (letters, longest, twice) = (1 + d.below(8), 1 + d.below(5), d.one_in(3));
-    (0..n)
-        .map(|i| {
+    let (letters, longest) = (1 + d.below(8), 1 + d.below(5));
+    numbers(d, n)
+        .into_iter()
+        .map(|number| {
             let mut ends = [key(d, letters, longest), key(d, letters, longest)];
             if !d.one_in(50) {
                 ends.sort();
             }
             let [first, last] = ends;
-            let number = if twice { d.below(n + 1) } else { i * 3 + d.below(3) };
             Table { number, level: d.below(levels) as u32, size: size(d), first, last }
         })
         .collect()
+}
+
+/// A next number at or beside one of the tables', behind most of them, or up to what the library takes.
+pub fn next(d: &mut Dice, tables: &[Table]) -> u64 {
+    let n = tables.len() as u64;
+    match d.below(30) {
+        0 => MOST_COUNT - d.below(3),
+        1..10 if n > 0 => tables[d.below(n) as usize].number.saturating_add(d.below(3)).min(MOST_COUNT),
+        _ => n * 3 + d.below(100),
+    }
 }
 
 /// Up to what the library takes.
@@ -118,8 +150,7 @@ pub fn plan(d: &mut Dice) -> u64 {
     let tables = tables(d, n, levels, &size);
     let most = if d.one_in(20) { 16 } else { 4 };
     let over = entries(d, most, levels);
-    let next = if d.one_in(30) { MOST_COUNT - d.below(3) } else { n * 3 + d.below(100) };
-    let plan = Plan { tables, trigger: d.below(8) as usize, over, next };
+    let plan = Plan { trigger: d.below(8) as usize, over, next: next(d, &tables), tables };
     let before = dropin::fallbacks().total();
     let sides = plan.sides();
     let (mut found, original) = plan.generated(&sides);

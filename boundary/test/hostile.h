@@ -20,8 +20,8 @@
     EXPORT(snapshot, "0 2 3 9 100", 60) \
     EXPORT(pacing_delay, "0 101", 20) \
     EXPORT(dominant, "", 20) \
-    EXPORT(generate_candidates, "0 4 5 6 9", 80) \
-    EXPORT(estimate_candidates, "0 2 4 5 6 9", 80) \
+    EXPORT(generate_candidates, "0 4 5 6 9 11", 80) \
+    EXPORT(estimate_candidates, "0 2 4 5 6 9 11", 80) \
     EXPORT(cause_aware_score, "", 20) \
     EXPORT(pick_best_cause_aware, "0 4 5 7 8 9 101", 80) \
     EXPORT(scheduling_decision, "0 9 101", 40) \

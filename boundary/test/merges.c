@@ -5,11 +5,13 @@
 /* Well-formed words, before they are damaged. */
 static uint64_t made[8 * 1025];
 
+/* Most lists have no number twice: multiples of one number modulo a prime, and at times 2^64 - 1. */
 static size_t make_tables(size_t keys) {
     size_t n = once_in(400) ? 1023 + below(3) : below(12);
+    uint64_t prime = n < 41 ? 41 : 1031, times = 1 + below(prime - 1), first = below(prime);
     for (size_t i = 0; i < n; i++) {
         uint64_t *t = made + 7 * i;
-        t[0] = below(40);
+        t[0] = (first + times * i) % prime;
         t[1] = below(4);
         t[2] = once_in(9) ? (uint64_t)1 << 40 : below(1000);
         for (size_t k = 3; k < 7; k += 2) {
@@ -17,6 +19,8 @@ static size_t make_tables(size_t keys) {
             t[k + 1] = below(keys - t[k] < 3 ? keys - t[k] + 1 : 4);
         }
     }
+    if (n && once_in(5)) made[7 * below(n)] = UINT64_MAX;
+    if (n && once_in(6)) made[7 * below(n)] = made[7 * below(n)];
     return 7 * n;
 }
 

@@ -188,7 +188,18 @@ static void merges(void) {
     static const uint64_t many[7 * 1025];
     WANT(coinhamper_generate_candidates(many, 7 * 1025, keys, 6, 4, high, 2, c, 24, m, 9, &cn, &mn) == 4);
     WANT(coinhamper_generate_candidates(tables, 27, keys, 6, 4, many, 34, c, 24, m, 9, &cn, &mn) == 4);
+    /* 3 in level 1 and in level 2: 5, then 11, then 6 */
+    uint64_t twice[28];
+    memcpy(twice, tables, sizeof tables);
+    twice[21] = 3;
+    WANT(coinhamper_generate_candidates(twice, 28, keys, 6, 4, over, 2, c, 24, m, 9, &cn, &mn) == 11);
+    WANT(coinhamper_generate_candidates(twice, 28, keys, 6, 4, high, 2, c, 0, m, 0, &cn, &mn) == 11);
+    WANT(coinhamper_generate_candidates(twice, 28, keys, 5, 4, over, 2, c, 24, m, 9, &cn, &mn) == 5);
+    WANT(coinhamper_generate_candidates(twice, 27, keys, 6, 4, over, 2, c, 24, m, 9, &cn, &mn) == 5);
     WANT(c[0] == FILLED && m[0] == FILLED && cn == 77 && mn == 88);
+    WANT(coinhamper_generate_candidates(twice, 21, keys, 6, 4, over, 2, c, 24, m, 9, &cn, &mn) == 0 && cn == 4 && mn == 9);
+    memset(c, 0xee, sizeof c);
+    memset(m, 0xee, sizeof m);
     WANT(coinhamper_generate_candidates(tables, 28, keys, 6, 4, over, 2, c, 25, m, 10, &cn, &mn) == 0 && cn == 4 && mn == 9); /* P10 */
     WANT(!memcmp(c, candidates, sizeof candidates) && !memcmp(m, numbers, sizeof numbers) && c[24] == FILLED && m[9] == FILLED);
     WANT(coinhamper_generate_candidates(NULL, 0, NULL, 0, 0, NULL, 0, NULL, 0, NULL, 0, &cn, &mn) == 0 && cn == 0 && mn == 0);
@@ -202,6 +213,20 @@ static void merges(void) {
     WANT(coinhamper_estimate_candidates(tables, 28, 10, high, 2, candidates, 24, numbers, 9, e, 36) == 6);
     WANT(coinhamper_estimate_candidates(tables, 28, 10, over, 2, candidates, 24, numbers, 8, e, 36) == 5);
     WANT(coinhamper_estimate_candidates(tables, 28, 10, over, 2, many, 6 * 146, numbers, 9, e, 36) == 4 && e[0] == FILLED);
+    WANT(coinhamper_estimate_candidates(twice, 28, 10, over, 2, candidates, 24, numbers, 9, e, 36) == 11);
+    WANT(coinhamper_estimate_candidates(twice, 28, TOP53 + 1, high, 2, candidates, 24, numbers, 9, e, 0) == 11);
+    WANT(coinhamper_estimate_candidates(twice, 28, 10, over, 2, candidates, 24, numbers, 8, e, 36) == 5 && e[0] == FILLED);
+    /* the first and the last of the most tables */
+    static uint64_t most[7 * 1024];
+    for (size_t i = 0; i < 1024; i++) most[7 * i] = UINT64_MAX - i;
+    WANT(coinhamper_estimate_candidates(most, 7 * 1024, 10, NULL, 0, NULL, 0, NULL, 0, NULL, 0) == 0);
+    most[7 * 1023] = UINT64_MAX;
+    WANT(coinhamper_estimate_candidates(most, 7 * 1024, 10, NULL, 0, NULL, 0, NULL, 0, NULL, 0) == 11);
+    WANT(coinhamper_generate_candidates(most, 7 * 1024, NULL, 0, 4, NULL, 0, NULL, 0, NULL, 0, &cn, &mn) == 11);
+    WANT(coinhamper_estimate_candidates(most, 7 * 1023, 10, NULL, 0, NULL, 0, NULL, 0, NULL, 0) == 0);
+    /* a candidate that names 3 twice has its bytes twice */
+    const uint64_t again[6] = {2, 1, 2, 2, 0, 2}, named[2] = {3, 3};
+    WANT(coinhamper_estimate_candidates(tables, 28, 10, over, 2, again, 6, named, 2, e, 9) == 0 && e[0] == 100 && e[1] == 0 && e[9] == FILLED);
     WANT(coinhamper_estimate_candidates(tables, 28, 10, over, 2, candidates, 24, numbers, 9, e, 37) == 0);
     WANT(!memcmp(e, estimates, sizeof estimates) && e[36] == FILLED);
 

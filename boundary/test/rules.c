@@ -147,6 +147,14 @@ static bool broken_keys(const uint64_t *t, size_t n, size_t keys) {
     return false;
 }
 
+/* R13.1 */
+static bool number_twice(const uint64_t *t, size_t n) {
+    for (size_t i = 0; i < n / 7; i++)
+        for (size_t k = 0; k < i; k++)
+            if (t[7 * i] == t[7 * k]) return true;
+    return false;
+}
+
 static bool levels_out(const uint64_t *over, size_t n) {
     for (size_t i = 0; i < n / 2; i++)
         if (over[2 * i] > MOST32 - 1) return true;
@@ -156,7 +164,7 @@ static bool levels_out(const uint64_t *over, size_t n) {
 uint64_t generate_rule(const uint64_t *tables, size_t n, size_t keys, const uint64_t *over, size_t over_n) {
     if (n / 7 > 1024 || over_n / 2 > 16) return 4;
     if (broken_tables(tables, n) || broken_keys(tables, n, keys) || over_n % 2) return 5;
-    return levels_out(over, over_n) ? 6 : 0;
+    return number_twice(tables, n) ? 11 : levels_out(over, over_n) ? 6 : 0;
 }
 
 /* R3.4 */
@@ -178,6 +186,7 @@ uint64_t estimate_rule(const uint64_t *tables, size_t n, uint64_t next, const ui
         out |= outside(candidates[i + 4], candidates[i + 5], numbers_n);
     }
     if (broken_tables(tables, n) || over_n % 2 || broken_candidates(candidates, candidates_n) || out) return 5;
+    if (number_twice(tables, n)) return 11;
     return levels_out(over, over_n) ? 6 : next > TOP53 ? 2 : room < candidates_n / 6 * 9 ? 9 : 0;
 }
 

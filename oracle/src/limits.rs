@@ -5,11 +5,12 @@ use crate::fits;
 use crate::make_log::{ENDS, SHORTEST, as_words, line_of};
 use crate::question::{Arg, Question};
 use crate::state::{LARGE, Sample, State};
+use crate::tables;
 
 const MAX: u64 = u64::MAX;
 const ONE: u64 = 0x3ff0000000000000;
 
-/// A good question, and what spoils it, in 01's order: each way alone, and each two that stand next to each other in that order.
+/// A good question, and what spoils it, in the order of refusals: each way alone, and each two that stand next to each other in that order.
 struct Faults {
     good: Question,
     ways: Vec<(u64, fn(&mut Question))>,
@@ -23,22 +24,41 @@ impl Faults {
             n.dedup();
             n
         };
-        let of = |number: u64| self.ways.iter().filter(move |w| w.0 == number).map(|w| w.1);
         for number in &numbers {
-            for way in of(*number) {
+            for way in self.of(*number) {
                 let mut q = self.good.clone();
                 way(&mut q);
                 out.push(q);
             }
         }
         for pair in numbers.windows(2) {
-            for one in of(pair[0]) {
-                for other in of(pair[1]) {
-                    let mut q = self.good.clone();
-                    other(&mut q);
-                    one(&mut q);
-                    out.push(q);
-                }
+            out.extend(self.at_once(pair[0], pair[1]));
+        }
+        out
+    }
+
+    /// Those, and two refusals at once that stand further apart.
+    fn questions_and(&self, pairs: &[(u64, u64)]) -> Vec<Question> {
+        let mut out = self.questions();
+        for (first, second) in pairs {
+            out.extend(self.at_once(*first, *second));
+        }
+        out
+    }
+
+    fn of(&self, number: u64) -> impl Iterator<Item = fn(&mut Question)> {
+        self.ways.iter().filter(move |w| w.0 == number).map(|w| w.1)
+    }
+
+    /// Two refusals, the first of them before the second in the order, in each of their ways.
+    fn at_once(&self, first: u64, second: u64) -> Vec<Question> {
+        let mut out = vec![];
+        for one in self.of(first) {
+            for other in self.of(second) {
+                let mut q = self.good.clone();
+                other(&mut q);
+                one(&mut q);
+                out.push(q);
             }
         }
         out
@@ -103,8 +123,88 @@ pub fn four_tables() -> (Vec<u64>, Vec<u64>) {
     (rows.concat(), (97..103).collect())
 }
 
-fn many_tables(n: u64) -> Vec<u64> {
-    (0..n).flat_map(|i| [i, i % 16, 10, 0, 1, 1, 1]).collect()
+fn many_tables(numbers: std::ops::Range<u64>) -> Vec<u64> {
+    numbers.flat_map(|i| [i, i % 16, 10, 0, 1, 1, 1]).collect()
+}
+
+/// A number twice among the four tables: in neighbours on one level; in the first and the last, across levels; in tables alike in all seven words.
+const TWICE: [(u64, fn(&mut Question)); 3] =
+    [(11, |q| list(q, 0)[0] = 3), (11, |q| list(q, 0)[21] = 7), (11, |q| list(q, 0).extend_from_within(..7))];
+
+/// Tables under these numbers, on levels 0 to 2; the sizes are powers of two, so that a sum tells which were found.
+fn numbered(numbers: &[u64]) -> Vec<u64> {
+    (0..).zip(numbers).flat_map(|(i, number)| [*number, i % 3, 1 << (i % 33), i % 5, 1, i % 5 + 1, 1]).collect()
+}
+
+/// Both calls on tables under these numbers, with the room that an accepted answer takes: what this trigger and these entries offer; the estimates of two
+/// candidates that have all the numbers, of one that has those just above them, and of one that has those just below.
+fn both_calls(numbers: &[u64], trigger: u64, over: &[u64]) -> [Question; 2] {
+    let (words, (_, keys)) = (numbered(numbers), four_tables());
+    let (candidates, offered) = tables::laid_out(&tables::candidates(&tables::tables(&words, b"abcdef"), trigger, over));
+    let n = numbers.len() as u64;
+    let made = [[1, 0, 0, 1, 0, n], [2, 1, 1, 2, 0, n], [3, 2, 0, 3, n, n], [3, 2, 0, 3, 2 * n, n]].concat();
+    let looked_up: Vec<u64> = [0, 1, MAX].iter().flat_map(|step| numbers.iter().map(|number| number.wrapping_add(*step))).collect();
+    [
+        ask!("generate_candidates", words.clone(), keys, trigger, over, room(candidates.len()), room(offered.len())),
+        ask!("estimate_candidates", words, 1000, over, made, looked_up, room(36)),
+    ]
+}
+
+/// A list with the number of one place at another too.
+fn under_one(numbers: &[u64], one: usize, other: usize) -> Vec<u64> {
+    let mut out = numbers.to_vec();
+    out[other] = out[one];
+    out
+}
+
+/// Numbers in rising, falling and mixed order, at sizes where a sort may go another way, and 1,024 of them: all different, and two places under one number.
+fn orders() -> Vec<Question> {
+    let mut out = vec![];
+    let mixed = |n: u64| (0..n).map(|i| 10 + 10 * (7 * i % n)).collect::<Vec<u64>>();
+    for n in [15, 16, 17, 32, 33] {
+        let rising: Vec<u64> = (1..=n).map(|i| 10 * i).collect();
+        let falling = rising.iter().rev().copied().collect();
+        for order in [rising, falling, mixed(n)] {
+            let n = order.len();
+            out.extend(both_calls(&order, 1, &[1, 100]));
+            for (one, other) in [(0, 1), (n / 2 - 1, n / 2), (n - 2, n - 1), (0, n - 1)] {
+                out.extend(both_calls(&under_one(&order, one, other), 1, &[1, 100]));
+            }
+        }
+    }
+    // of 1,024 tables no candidate is asked for, since a row can't show so many numbers
+    let most = mixed(1024);
+    for numbers in [most.clone(), under_one(&most, 511, 512), under_one(&most, 0, 1023)] {
+        out.extend(both_calls(&numbers, MAX, &[]));
+    }
+    out
+}
+
+/// The numbers of tables: in any order; at both ends, alike in their lower bits alone, twice and three times; in a part record, which is no table; and a
+/// candidate's own, which may repeat and count as often.
+fn table_numbers() -> Vec<Question> {
+    let mut out = orders();
+    let lower_bits = [8, 16, 32, 63].map(|power| [7 + (1 << power), 7]);
+    let different = [&[0, MAX][..], &[MAX, 0, MAX - 1, 1], &[1 << 63, (1 << 63) - 1, 0]].into_iter().chain(lower_bits.iter().map(|n| &n[..]));
+    let repeated = [&[0, 0][..], &[MAX, MAX], &[0, 5, 0], &[MAX, 5, 0, MAX], &[5, 5, 5], &[5, 6, 5, 6]];
+    for numbers in different.chain(repeated) {
+        out.extend(both_calls(numbers, 1, &[1, 100]));
+    }
+    // a part record that begins like the first table, after 4 and after 1,024 whole ones
+    for good in [generation(), estimation()] {
+        for (more, words) in [(0, 1), (0, 6), (1020, 1)] {
+            let mut q = good.clone();
+            list(&mut q, 0).extend(many_tables(10..10 + more));
+            list(&mut q, 0).extend_from_within(..words);
+            out.push(q);
+        }
+    }
+    let mut own = estimation();
+    *list(&mut own, 0) = numbered(&[3, 4, 7]);
+    *list(&mut own, 3) = [[1, 0, 0, 1, 0, 7], [2, 1, 2, 2, 0, 7], [3, 2, 0, 3, 0, 7]].concat();
+    *list(&mut own, 4) = vec![3, 3, 7, 4, 4, 3, 7];
+    out.push(own);
+    out
 }
 
 fn generation() -> Question {
@@ -249,7 +349,7 @@ pub fn all() -> Vec<Question> {
         Faults {
             good: generation(),
             ways: vec![
-                (4, |q| *list(q, 0) = many_tables(1025)),
+                (4, |q| list(q, 0).extend(many_tables(10..1031))),
                 (4, |q| *list(q, 3) = vec![1; 34]),
                 (5, |q| list(q, 0).push(1)),
                 (5, |q| list(q, 3).push(1)),
@@ -258,16 +358,19 @@ pub fn all() -> Vec<Question> {
                 (5, |q| list(q, 0)[3] = 6),
                 (5, |q| (list(q, 0)[5], list(q, 0)[6]) = (7, 0)),
                 (5, |q| (list(q, 0)[3], list(q, 0)[4]) = (MAX, MAX)),
+                TWICE[0],
+                TWICE[1],
+                TWICE[2],
                 (6, |q| list(q, 3)[0] = (1 << 32) - 1),
                 (9, |q| shorten(q, 4)),
                 (9, |q| shorten(q, 5)),
             ],
         }
-        .questions(),
+        .questions_and(&[(4, 11), (5, 6), (11, 9)]),
     );
     let (_, keys) = four_tables();
-    out.push(ask!("generate_candidates", many_tables(1024), keys.clone(), MAX, (0..16).flat_map(|l| [l, 5]).collect::<Vec<u64>>(), room(6 * 145), room(3000)));
-    out.push(ask!("generate_candidates", many_tables(1024), keys, 1, vec![], room(12), room(200)));
+    out.push(ask!("generate_candidates", many_tables(0..1024), keys.clone(), MAX, (0..16).flat_map(|l| [l, 5]).collect::<Vec<u64>>(), room(6 * 145), room(3000)));
+    out.push(ask!("generate_candidates", many_tables(0..1024), keys, 1, vec![], room(12), room(200)));
     out.push(ask!("generate_candidates", vec![], vec![], 0, vec![], vec![], vec![]));
     for (i, n) in [(2usize, 1u64 << 40), (1, u32::MAX as u64)] {
         let mut q = generation();
@@ -278,11 +381,12 @@ pub fn all() -> Vec<Question> {
         Faults {
             good: estimation(),
             ways: vec![
-                (4, |q| *list(q, 0) = many_tables(1025)),
+                (4, |q| list(q, 0).extend(many_tables(10..1031))),
                 (4, |q| *list(q, 2) = vec![1; 34]),
                 (4, |q| *list(q, 3) = [3, 1, 0, 2, 0, 0].repeat(146)),
                 (4, |q| list(q, 3)[5] = 1025),
                 (5, |q| list(q, 0).push(1)),
+                (5, |q| list(q, 0)[1] = 1 << 32),
                 (5, |q| list(q, 0)[2] = (1 << 40) + 1),
                 (5, |q| list(q, 2).push(1)),
                 (5, |q| list(q, 3).push(1)),
@@ -293,13 +397,17 @@ pub fn all() -> Vec<Question> {
                 (5, |q| list(q, 3)[2] = 0),
                 (5, |q| list(q, 3)[4] = 9),
                 (5, |q| (list(q, 3)[4], list(q, 3)[5]) = (10, 0)),
+                TWICE[0],
+                TWICE[1],
+                TWICE[2],
                 (6, |q| list(q, 2)[0] = (1 << 32) - 1),
                 (2, |q| set(q, 1, LARGE + 1)),
                 (9, |q| shorten(q, 5)),
             ],
         }
-        .questions(),
+        .questions_and(&[(4, 11), (5, 6), (11, 2), (11, 9)]),
     );
+    out.extend(table_numbers());
     out.extend(candidates_at_limits(estimation, 3));
     let mut limits = estimation();
     *list(&mut limits, 3) = [3, 1, 0, 2, 0, 9].repeat(145);

@@ -6,6 +6,7 @@ use crate::numbers::Dice;
 use crate::question::{Arg, Question};
 use crate::state::State;
 use crate::tables;
+use std::collections::HashSet;
 
 /// Every call that stands by itself, by the name that a question has; those of the log as a table and as text are in make_log.rs. `of_u64` stands three times, so that the frozen rows stay as the dice gave them.
 pub const CALLS: [&str; 61] = [
@@ -106,7 +107,7 @@ impl Dice {
 
     // ---- tables
 
-    /// Words of n tables over few keys and levels, and their key bytes.
+    /// Words of n tables over few keys, levels and numbers, and their key bytes.
     pub fn tables(&mut self, n: u64) -> (Vec<u64>, Vec<u64>) {
         let keys = self.bytes(40);
         let levels = 1 + self.below(4);
@@ -130,6 +131,48 @@ impl Dice {
             words.extend(part(self));
         }
         (words, keys)
+    }
+
+    /// Dice of their own, thrown beside these, so that every other question stays as it was.
+    fn beside(&self) -> Dice {
+        Dice(!self.0)
+    }
+
+    /// The tables with numbers that differ: one that stood before becomes the next one free. In one list of eight some count down from 2^64 - 1.
+    fn apart(&self, mut words: Vec<u64>) -> Vec<u64> {
+        let mut dice = self.beside();
+        let n = words.len() as u64 / 7;
+        let both_ends = dice.one_in(8);
+        let mut seen = HashSet::new();
+        for table in words.chunks_exact_mut(7) {
+            // few of a long list, so that its question stays about as long
+            if both_ends && dice.one_in(2 + n / 8) {
+                table[0] = !table[0];
+            }
+            while !seen.insert(table[0]) {
+                table[0] = table[0].wrapping_add(1);
+            }
+        }
+        words
+    }
+
+    /// In one list of eight a number occurs twice: in neighbours, in the first and the last, or in any two, now and then with all seven words alike.
+    fn repeated(&self, mut words: Vec<u64>) -> Vec<u64> {
+        let mut dice = self.beside();
+        let n = words.len() as u64 / 7;
+        if n < 2 || !dice.one_in(8) {
+            return words;
+        }
+        let place = dice.below(n - 1);
+        let (one, other) = match dice.below(4) {
+            0 => (place, place + 1),
+            1 => (0, n - 1),
+            _ => (place, place + 1 + dice.below(n - 1 - place)),
+        };
+        let (one, other) = if dice.one_in(2) { (one, other) } else { (other, one) };
+        let alike = if dice.one_in(4) { 7 } else { 1 };
+        words.copy_within(7 * one as usize..7 * one as usize + alike, 7 * other as usize);
+        words
     }
 
     fn table_count(&mut self, large: bool) -> u64 {
@@ -186,14 +229,15 @@ impl Dice {
 
     fn generation(&mut self, large: bool) -> Question {
         let n = if self.one_in(400) { 1022 + self.below(4) } else { self.table_count(large) };
-        let (words, keys) = self.tables(n);
+        let (drawn, keys) = self.tables(n);
+        let words = self.apart(drawn);
         let over = self.over(&words);
         let trigger = if self.one_in(4) { self.number() } else { self.below(5) };
         let bytes: Vec<u8> = keys.iter().map(|b| *b as u8).collect();
         let (w, m) = tables::laid_out(&tables::candidates(&tables::tables(&words, &bytes), trigger, &over));
         let (words, over) = (self.damaged(words), self.damaged(over));
         let (out, numbers) = (self.room(w.len()), self.room(m.len()));
-        ask!("generate_candidates", words, keys, trigger, over, out, numbers)
+        ask!("generate_candidates", self.repeated(words), keys, trigger, over, out, numbers)
     }
 
     /// Candidate words with their numbers: those that generation makes, or made up.
@@ -223,13 +267,14 @@ impl Dice {
 
     fn estimation(&mut self, large: bool) -> Question {
         let n = if self.one_in(400) { 1022 + self.below(4) } else { self.table_count(large) };
-        let (words, keys) = self.tables(n);
+        let (drawn, keys) = self.tables(n);
+        let words = self.apart(drawn);
         let over = self.over(&words);
         let (cands, numbers) = self.candidates(&words, &keys, &over);
         let next = if self.one_in(3) { self.number() } else { self.below(100) };
         let out = self.room(9 * (cands.len() / 6));
         let (words, over, cands) = (self.damaged(words), self.damaged(over), self.damaged(cands));
-        ask!("estimate_candidates", words, next, over, cands, numbers, out)
+        ask!("estimate_candidates", self.repeated(words), next, over, cands, numbers, out)
     }
 
     fn estimate_words(&mut self) -> [u64; 9] {

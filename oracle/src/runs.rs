@@ -5,6 +5,7 @@ use crate::numbers::{Dice, bits, float};
 use crate::original::{Beside, Check};
 use crate::question::{Arg, Question};
 use crate::state::{Focus, Reads, Sample, State};
+use crate::tables;
 
 /// One governor: the words that the rules give after each call, and the original, which gets the accepted calls.
 pub struct Run {
@@ -146,9 +147,9 @@ pub fn all_turns() -> Vec<Question> {
     out
 }
 
-/// All lists of up to `most` tables over a few keys, levels, sizes and numbers, with a few triggers and budgets.
+/// All lists of up to `most` tables over a few keys, levels, sizes and numbers, with a few triggers and budgets; of those in which a number repeats each thirteenth.
 pub fn all_tables(most: u32) -> impl Iterator<Item = Question> {
-    let one: Vec<[u64; 7]> = [1u64, 2]
+    let one: Vec<[u64; 7]> = [1u64, 2, 3]
         .iter()
         .flat_map(|&number| {
             [0u64, 1, 2].iter().flat_map(move |&level| [10u64, 20].iter().flat_map(move |&size| [[0, 1, 0, 1], [0, 1, 1, 1], [1, 1, 2, 1]].iter().map(move |p| [number, level, size, p[0], p[1], p[2], p[3]])))
@@ -157,12 +158,15 @@ pub fn all_tables(most: u32) -> impl Iterator<Item = Question> {
     (0..=most).flat_map(move |n| {
         let one = one.clone();
         let count = (one.len() as u64).pow(n);
-        (0..count).flat_map(move |mut i| {
+        let list = move |mut i: u64| {
             let mut words = vec![];
             for _ in 0..n {
                 words.extend(one[(i % one.len() as u64) as usize]);
                 i /= one.len() as u64;
             }
+            words
+        };
+        (0..count).map(move |i| (i, list(i))).filter(|(i, words)| i % 13 == 0 || !tables::repeated_numbers(words)).flat_map(|(_, words)| {
             [(0u64, vec![1, 5]), (2, vec![0, 30, 1, 10])].into_iter().map(move |(trigger, over)| {
                 let room: Vec<u64> = (0..60).map(|i| 1000 + i).collect();
                 ask!("generate_candidates", words.clone(), vec![97u64, 98, 99], trigger, over, [room.clone(), room.clone(), room.clone()].concat(), room)

@@ -1,7 +1,8 @@
-//! 01's rules of tables, candidates, estimates and choice, written a second time over lent words.
+//! 01's rules of tables, candidates, estimates and choice, and 02 (iii)'s of a number that occurs twice, written a second time over lent words.
 
 use crate::numbers::{bits, float, logarithm, minimum, root};
 use crate::state::{Focus, LARGE};
+use std::collections::HashSet;
 
 #[derive(Clone, Debug)]
 pub struct Table {
@@ -53,6 +54,12 @@ pub fn broken_entries(words: &[u64]) -> bool {
     words.len() % 2 != 0
 }
 
+/// 02 (iii): "a table list in which a number occurs twice", whatever the levels.
+pub fn repeated_numbers(words: &[u64]) -> bool {
+    let mut seen = HashSet::new();
+    words.chunks_exact(7).any(|w| !seen.insert(w[0]))
+}
+
 /// "an over-budget level exceeds 2^32-2"
 pub fn levels_out(words: &[u64]) -> bool {
     words.chunks_exact(2).any(|w| w[0] > u32::MAX as u64 - 1)
@@ -101,7 +108,7 @@ pub fn candidates(ts: &[Table], trigger: u64, over: &[u64]) -> Vec<Candidate> {
         if order.is_empty() {
             continue;
         }
-        // "start at the smallest number (the earliest if repeated); batches of 1 to 8 tables that follow"
+        // "start at the smallest number ..; batches of 1 to 8 tables that follow"
         let least = order.iter().map(|p| ts[*p].number).min().expect("a table");
         let seed = order.iter().position(|p| ts[*p].number == least).expect("it is there");
         for length in 1..=8.min(order.len() - seed) {
@@ -129,13 +136,16 @@ pub fn laid_out(all: &[Candidate]) -> (Vec<u64>, Vec<u64>) {
     (words, numbers)
 }
 
-/// In order: 4, 5, 6, 9; the answer at the front of both buffers.
+/// In order: 4, 5, 11, 6, 9; the answer at the front of both buffers.
 pub fn generate(words: &[u64], keys: &[u8], trigger: u64, over: &[u64], out: &mut [u64], numbers: &mut [u64]) -> (u64, u64, u64) {
     if too_many_tables(words) || too_many_entries(over) {
         return (4, 0, 0);
     }
     if broken_tables(words) || broken_keys(words, keys.len()) || broken_entries(over) {
         return (5, 0, 0);
+    }
+    if repeated_numbers(words) {
+        return (11, 0, 0);
     }
     if levels_out(over) {
         return (6, 0, 0);
@@ -165,7 +175,7 @@ fn malformed(c: &[u64]) -> bool {
 pub fn estimate(words: &[u64], next: u64, over: &[u64], c: &[u64], numbers: &[u64]) -> [u64; 9] {
     let ts = tables(words, &[]);
     let inputs = &numbers[c[4] as usize..(c[4] + c[5]) as usize];
-    // "Estimates look up the first table with a number."
+    // "Estimates look up the first table with a number": where 11 is not due it is the only one
     let found: Vec<&Table> = inputs.iter().filter_map(|n| ts.iter().find(|t| t.number == *n)).collect();
     let source = if c[0] == 1 { 0 } else { c[1] };
     let input: u64 = found.iter().filter(|t| t.level == source).map(|t| t.size).sum();
@@ -185,7 +195,7 @@ pub fn estimate(words: &[u64], next: u64, over: &[u64], c: &[u64], numbers: &[u6
     [input, overlap, rewrite, input, files, next.saturating_sub(oldest), bits(full), bits(debt), bits(full)]
 }
 
-/// In order 4, 5, 6, 2, 9.
+/// In order 4, 5, 11, 6, 2, 9.
 pub fn estimates(words: &[u64], next: u64, over: &[u64], cands: &[u64], numbers: &[u64], out: &mut [u64]) -> (u64, u64) {
     let rows = || cands.chunks_exact(6);
     if too_many_tables(words) || too_many_entries(over) || cands.len() / 6 > 145 || rows().any(|c| c[5] > 1024) {
@@ -194,6 +204,9 @@ pub fn estimates(words: &[u64], next: u64, over: &[u64], cands: &[u64], numbers:
     let out_of_place = |c: &[u64]| c[4] as u128 + c[5] as u128 > numbers.len() as u128;
     if broken_tables(words) || broken_entries(over) || cands.len() % 6 != 0 || rows().any(|c| malformed(c) || out_of_place(c)) {
         return (5, 0);
+    }
+    if repeated_numbers(words) {
+        return (11, 0);
     }
     if levels_out(over) {
         return (6, 0);

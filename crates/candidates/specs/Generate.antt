@@ -5,8 +5,9 @@ use mathlib.Core.Bool.{Bool, cond, _||_}
 use mathlib.Core.List.{List, [], _∷_, _++_}
 use lib.ListN.{length, drop}
 use lib.Dec.{ltb, eqb}
-use Rattle.refusals.specs.Refusals.{Check, _gives_, firstFault, none, tooMany, badRecord, badLevel, noRoom}
+use Rattle.refusals.specs.Refusals.{Check, _gives_, firstFault, none, tooMany, badRecord, badLevel, noRoom, duplicateNumber}
 use Rattle.records.specs.Tables.{tablesOf, entriesOf}
+use Rattle.number_order.specs.Numbers.{repeats}
 use Rattle.faults.specs.Tables.{tooManyTables, brokenTables, brokenKeys, tooManyEntries, brokenEntries, levelsOut}
 use Rattle.candidates.specs.declared.Generated.{Generated}
 use Rattle.l0_words.specs.Words.{Offer, wordsFrom, numbersIn}
@@ -31,13 +32,23 @@ candidateWords q = wordsFrom 0 (madeOf q)
 abbrev pub numberWords : GenerateInput → List ℕ
 numberWords q = numbersIn (madeOf q)
 
--- 4, 5, 6: what is wrong with the lent words
-unfoldable pub inputChecks : List ℕ → List ℕ → List ℕ → List Check
-inputChecks tables keys over =
+-- 4, 5: whole records, few and sound
+abbrev pub wordsChecks : List ℕ → List ℕ → List ℕ → List Check
+wordsChecks tables keys over =
     (tooManyTables tables || tooManyEntries over) gives tooMany
     ∷ (brokenTables tables || (brokenKeys (length keys) tables || brokenEntries over)) gives badRecord
+    ∷ []
+
+-- 11, 6
+abbrev pub laterChecks : List ℕ → List ℕ → List Check
+laterChecks tables over =
+    repeats (tablesOf tables) gives duplicateNumber
     ∷ levelsOut over gives badLevel
     ∷ []
+
+-- what is wrong with the lent words
+unfoldable pub inputChecks : List ℕ → List ℕ → List ℕ → List Check
+inputChecks tables keys over = wordsChecks tables keys over ++ laterChecks tables over
 
 abbrev pub inputFault : List ℕ → List ℕ → List ℕ → ℕ
 inputFault tables keys over = firstFault (inputChecks tables keys over)

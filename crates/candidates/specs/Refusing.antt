@@ -1,27 +1,30 @@
 -- How the room comes after the input's faults, and the call's answer where it is refused and where it is given.
 use mathlib.Core.Path.{_≡_, _∙_}
 use mathlib.Core.Bool.{true, false, cond}
-use mathlib.Core.List.{List, [], _++_}
-use Prim.Native.Nat.{ℕ, _/_}
+use mathlib.Core.List.{List, [], _∷_, _++_}
+use Prim.Native.Nat.{ℕ, _/_, _≤_}
 use native.Mathlib.Omega.{arith}
 use lib.ListN.{length}
 use lib.Seq.{sets}
 use lib.Dec.{eqb}
 use borrow.Author.Tests.{ltb-false, eq-eqb, ne-eqb}
-use Rattle.refusals.specs.Refusals.{noRoom}
-use Rattle.refusals.specs.Checks.{none-found, fault-last}
+use Rattle.refusals.specs.Refusals.{_gives_, firstFault, none, tooMany, badLevel, noRoom}
+use Rattle.refusals.specs.Checks.{checkFor, fault-join, clear-for}
 use Rattle.lists.specs.Tests.{neither}
 use Rattle.lists.specs.Writes.{sets-front, sets-past}
+use Rattle.records.specs.Tables.{tablesOf}
+use Rattle.faults.specs.Limits.{maxTables}
+use Rattle.faults.specs.Tables.{tooManyTables, tooManyEntries}
 use Rattle.l0_words.specs.declared.Ends.{Ends}
 use Rattle.l0_words.specs.Written.{Written, start}
 use Rattle.candidate_words.specs.Candidates.{lentOffers}
 use Rattle.candidate_words.specs.Bounds.{words-length}
-use Rattle.candidates.specs.Generate.{GenerateInput, madeOf, candidateWords, numberWords, inputChecks, inputFault, shortOf, generateFault, generatedOf, Answered}
+use Rattle.candidates.specs.Generate.{GenerateInput, wordsChecks, madeOf, candidateWords, numberWords, inputChecks, inputFault, shortOf, generateFault, generatedOf, Answered}
 
 module _ (q : GenerateInput) (room₁ room₂ : ℕ) where
   fault-room : generateFault q room₁ room₂ ≡ cond (eqb (inputFault (q .tables) (q .keys) (q .over)) 0) (cond (shortOf q room₁ room₂) noRoom 0) (inputFault (q .tables) (q .keys) (q .over))
   unfolding generateFault inputChecks
-  fault-room = fault-last (inputChecks (q .tables) (q .keys) (q .over)) (shortOf q room₁ room₂) noRoom tt
+  fault-room = fault-join (inputChecks (q .tables) (q .keys) (q .over)) (shortOf q room₁ room₂ gives noRoom ∷ []) tt
 
   pub fault-input : (inputFault (q .tables) (q .keys) (q .over) ≡ 0 → ⊥) → generateFault q room₁ room₂ ≡ inputFault (q .tables) (q .keys) (q .over)
   fault-input h = fault-room ∙ simp (ne-eqb _ _ h)
@@ -60,4 +63,11 @@ module _ (q : GenerateInput) (c₀ n₀ : List ℕ) where
 -- of an input in which nothing is wrong all is written
 pub lent-made : (q : GenerateInput) → inputFault (q .tables) (q .keys) (q .over) ≡ 0 → lentOffers (q .tables) (q .keys) (q .trigger) (q .over) ≡ madeOf q
 unfolding inputChecks lentOffers
-lent-made q e = let f = none-found (inputChecks (q .tables) (q .keys) (q .over)) tt e in simp (f .0, f .1 .1 .0)
+lent-made q e =
+    let clear : (m : ℕ) → checkFor m (inputChecks (q .tables) (q .keys) (q .over)) ≡ false = λ m. clear-for m (inputChecks (q .tables) (q .keys) (q .over)) tt e in
+    simp (clear tooMany, clear badLevel)
+
+-- words that pass hold no more tables than the order has places for
+pub words-few : (tables keys over : List ℕ) → firstFault (wordsChecks tables keys over) ≡ none → length (tablesOf tables) ≤ maxTables
+words-few tables keys over e =
+    ltb-false maxTables (length (tablesOf tables)) (neither (tooManyTables tables) (tooManyEntries over) (clear-for tooMany (wordsChecks tables keys over) tt e) .0)

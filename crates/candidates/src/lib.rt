@@ -2,7 +2,8 @@
 ghost use mathlib.Core.Path.{_≡_};
 ghost use mathlib.Core.Bool.{_||_};
 ghost use lib.Dec.{ltb};
-ghost use Rattle.candidates.specs.Generate.{generateInput, inputFault, Answered};
+ghost use Rattle.refusals.specs.Refusals.{firstFault};
+ghost use Rattle.candidates.specs.Generate.{generateInput, wordsChecks, inputFault, Answered};
 use candidate_words::put_candidates;
 use l0_words::Ends;
 
@@ -72,9 +73,26 @@ fn short(need: Ends, words: usize, numbers: usize) -> bool
     numbers < need.numbers
 }
 
-// What is wrong with the lent words, whatever the room: 4, 5, 6.
+// What is wrong with the lent words, whatever the room: 4, 5, 11, 6.
 fn input_fault(tables: &[u64], keys: &[u8], over: &[u64]) -> u64
     ensures { λ r. ⌜ r ≡ inputFault (now (tables .entry)) (now (keys .entry)) (now (over .entry)) ⌝ }
+{
+    let fault = words_fault(tables, keys, over);
+    if fault != refusals::NONE {
+        return fault;
+    }
+    if number_order::repeats(tables) {
+        return refusals::DUPLICATE_NUMBER;
+    }
+    if faults::tables::levels_out(over) {
+        return refusals::BAD_LEVEL;
+    }
+    refusals::NONE
+}
+
+// 4, 5.
+fn words_fault(tables: &[u64], keys: &[u8], over: &[u64]) -> u64
+    ensures { λ r. ⌜ r ≡ firstFault (wordsChecks (now (tables .entry)) (now (keys .entry)) (now (over .entry))) ⌝ }
 {
     if faults::tables::too_many_tables(tables) | faults::tables::too_many_entries(over) {
         return refusals::TOO_MANY;
@@ -82,9 +100,6 @@ fn input_fault(tables: &[u64], keys: &[u8], over: &[u64]) -> u64
     let keys_out = faults::tables::broken_keys(tables, keys);
     if faults::tables::broken_tables(tables) | (keys_out | faults::tables::broken_entries(over)) {
         return refusals::BAD_RECORD;
-    }
-    if faults::tables::levels_out(over) {
-        return refusals::BAD_LEVEL;
     }
     refusals::NONE
 }

@@ -1,2 +1,3 @@
 -- What `estimate_candidates` refuses.
 pub mod Faults
+pub mod Steps

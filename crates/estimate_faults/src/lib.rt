@@ -1,24 +1,25 @@
-// What `estimate_candidates` refuses, as the number of the refusal; 0 where nothing is wrong. Nothing is refused here: the call gives the number.
+// What `estimate_candidates` refuses beside 11, as the number of the refusal; 0 where nothing is wrong. Nothing is refused here: the call gives the number.
 ghost use mathlib.Core.Path.{_≡_};
-ghost use Rattle.estimate_faults.specs.Faults.{estimateInput, tooManyInputs, brokenInputs, estimateFault};
+ghost use Rattle.refusals.specs.Refusals.{firstFault};
+ghost use Rattle.estimate_faults.specs.Faults.{tooManyInputs, brokenInputs, wordsChecks, valuesChecks};
 
-// The call's checks, in 01's order: 4, 5, 6, 2, 9. The room is the length of the output buffer.
-pub fn estimate_fault(
-    tables: &[u64],
-    next: u64,
-    over: &[u64],
-    candidates: &[u64],
-    numbers: &[u64],
-    room: usize,
-) -> u64
-    ensures { λ r. ⌜ r ≡ estimateFault (estimateInput (now (tables .entry)) next (now (over .entry)) (now (candidates .entry)) (now (numbers .entry))) room ⌝ }
+// 4, 5: whole records, few and sound; there are so many numbers.
+pub fn words_fault(tables: &[u64], over: &[u64], candidates: &[u64], numbers: u64) -> u64
+    ensures { λ r. ⌜ r ≡ firstFault (wordsChecks (now (tables .entry)) (now (over .entry)) (now (candidates .entry)) numbers) ⌝ }
 {
     if too_many(tables, over, candidates) {
         return refusals::TOO_MANY;
     }
-    if broken(tables, over, candidates, numbers.len() as u64) {
+    if broken(tables, over, candidates, numbers) {
         return refusals::BAD_RECORD;
     }
+    refusals::NONE
+}
+
+// 6, 2, 9: the room is the length of the output buffer.
+pub fn values_fault(next: u64, over: &[u64], candidates: &[u64], room: usize) -> u64
+    ensures { λ r. ⌜ r ≡ firstFault (valuesChecks next (now (over .entry)) (now (candidates .entry)) room) ⌝ }
+{
     if faults::tables::levels_out(over) {
         return refusals::BAD_LEVEL;
     }

@@ -4,7 +4,7 @@ use native.Mathlib.Numerals.{add-one}
 use native.Mathlib.Omega.{arith}
 use mathlib.Core.Path.{_≡_, refl, sym, _∙_}
 use mathlib.Core.Logic.{_⊎_, ⊎-elim}
-use mathlib.Core.Bool.{Bool, true, false, _||_, or-assoc, or-false}
+use mathlib.Core.Bool.{Bool, true, false, _||_, or-assoc, or-false, true≢false}
 use mathlib.Core.List.{List, [], _∷_, List·Memᴰ, List·Memᴰ·head, List·Memᴰ·tail, List·Memᴰ·not-nil, List·Memᴰ·cases-cons}
 use lib.ListN.{length, drop, getD, drop-of-length-le}
 use lib.Seq.{drop-cons}
@@ -28,6 +28,24 @@ module _ {X : Type 0} where
   unfolding anyOf
   any-none p [] h = refl
   any-none p (x ∷ xs) h = rw (h x (List·Memᴰ·head refl)) (any-none p xs (λ y m. h y (List·Memᴰ·tail m)))
+
+  -- it holds of one of those that it holds of
+  pub any-yes : (p : X → Bool) (xs : List X) → anyOf p xs ≡ true → (x : X) × List·Memᴰ x xs × (p x ≡ true)
+  unfolding anyOf
+  any-yes p [] e = absurd (true≢false (sym e))
+  any-yes p (x ∷ xs) e = go (p x) refl e (any-yes p xs)
+    where
+      go : (b : Bool) → p x ≡ b → b || anyOf p xs ≡ true → (anyOf p xs ≡ true → (y : X) × List·Memᴰ y xs × (p y ≡ true)) → (y : X) × List·Memᴰ y (x ∷ xs) × (p y ≡ true)
+      go true h k f = (x, List·Memᴰ·head refl, h)
+      go false h k f = let r = f k in (r .0, List·Memᴰ·tail (r .1), r .2)
+
+  -- and where it holds of one, it holds of some
+  pub any-has : (p : X → Bool) (xs : List X) (x : X) → List·Memᴰ x xs → p x ≡ true → anyOf p xs ≡ true
+  any-has p xs x m e = go (anyOf p xs) refl
+    where
+      go : (b : Bool) → anyOf p xs ≡ b → anyOf p xs ≡ true
+      go true h = h
+      go false h = absurd (true≢false (sym e ∙ any-no p xs h x m))
 
   pub getD-in : (xs : List X) (i : ℕ) (d : X) → i < length xs → List·Memᴰ (getD xs i d) xs
   getD-in [] i d h = absurd (omega arith)

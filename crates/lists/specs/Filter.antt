@@ -1,14 +1,14 @@
 -- Those of a list of which a test holds, in their order; and the same, place by place.
-use Prim.Native.Nat.{ℕ, suc, _+_, _≤_, _<_}
+use Prim.Native.Nat.{ℕ, zero, suc, _+_, _≤_, _<_}
 use native.Mathlib.Numerals.{add-one}
 use native.Mathlib.Omega.{arith}
 use mathlib.Core.Path.{_≡_, refl, sym, ap, _∙_}
 use mathlib.Core.Logic.{_⊎_, ⊎-elim}
 use mathlib.Core.Bool.{Bool, true, false, cond, _&&_, true≢false}
-use mathlib.Core.List.{List, [], _∷_, _++_, List·Memᴰ, List·Memᴰ·head, List·Memᴰ·tail, List·Memᴰ·not-nil, List·Memᴰ·cases-cons}
+use mathlib.Core.List.{List, [], _∷_, _++_, map, List·Memᴰ, List·Memᴰ·head, List·Memᴰ·tail, List·Memᴰ·not-nil, List·Memᴰ·cases-cons}
 use lib.ListN.{length, drop, getD, drop-of-length-le}
 use lib.Seq.{drop-cons}
-use Rattle.lists.specs.Records.{placesUpTo, places-at, tabulate-length}
+use Rattle.lists.specs.Records.{tabulate, placesUpTo, places-at, tabulate-length}
 
 unfoldable pub filterOf : {X : Type 0} → (X → Bool) → List X → List X
 filterOf p [] = []
@@ -40,6 +40,12 @@ module _ {X : Type 0} (p : X → Bool) where
       go : (t : Bool) → p x ≡ t → p x ≡ false
       go true h = absurd (List·Memᴰ·not-nil (rw e at (filter-has xs x m h)))
       go false h = h
+
+  -- where the test holds at no place, none is kept
+  pub filter-nowhere : (d : X) (xs : List X) → ((i : ℕ) → i < length xs → p (getD xs i d) ≡ false) → filterOf p xs ≡ []
+  unfolding filterOf
+  filter-nowhere d [] f = refl
+  filter-nowhere d (x ∷ xs) f = rw (f 0 (omega arith)) (filter-nowhere d xs (λ i h. f (suc i) (omega arith)))
 
   pub filter-small : (xs : List X) → length (filterOf p xs) ≤ length xs
   unfolding filterOf
@@ -116,3 +122,18 @@ module _ (p : ℕ → Bool) (n : ℕ) where
 
     pub places-end : n ≤ i → filterOf p (drop i (placesUpTo n)) ≡ []
     places-end h = filter-end p (placesUpTo n) i (rw tabulate-length h)
+
+-- kept by their places, they are those kept themselves
+module _ {X : Type 0} (p : X → Bool) (d : X) (xs : List X) where
+  from-place : (n i : ℕ) → i + n ≡ length xs → map (λ k. getD xs k d) (filterOf (λ k. p (getD xs k d)) (tabulate (λ k. k) n i)) ≡ filterOf p (drop i xs)
+  unfolding filterOf tabulate
+  from-place zero i e = rw (drop-of-length-le xs {i = i} (omega arith))
+  from-place (suc n) i e = rw (drop-cons xs i d (omega arith)) (go (p (getD xs i d)) (from-place n (suc i) (omega arith)))
+    where
+      go : (b : Bool) → map (λ k. getD xs k d) (filterOf (λ k. p (getD xs k d)) (tabulate (λ k. k) n (suc i))) ≡ filterOf p (drop (suc i) xs)
+          → map (λ k. getD xs k d) (cond b (i ∷ filterOf (λ k. p (getD xs k d)) (tabulate (λ k. k) n (suc i))) (filterOf (λ k. p (getD xs k d)) (tabulate (λ k. k) n (suc i)))) ≡ cond b (getD xs i d ∷ filterOf p (drop (suc i) xs)) (filterOf p (drop (suc i) xs))
+      go true k = ap (λ (l : List X). getD xs i d ∷ l) k
+      go false k = k
+
+  pub filter-places : map (λ k. getD xs k d) (filterOf (λ k. p (getD xs k d)) (placesUpTo (length xs))) ≡ filterOf p xs
+  filter-places = from-place (length xs) 0 (omega arith)

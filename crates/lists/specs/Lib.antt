@@ -2,9 +2,14 @@
 pub mod Tests
 pub mod Any
 pub mod Filter
+pub mod Twice
 pub mod Flat
 pub mod Records
 pub mod Sort
 pub mod Sorting
 pub mod Ordered
+pub mod Inserting
+pub mod Merge
+pub mod Halves
+pub mod Halving
 pub mod Writes

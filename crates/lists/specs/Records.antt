@@ -4,8 +4,10 @@ use mathlib.Core.Logic.{⊎-elim}
 use mathlib.Core.List.{List, [], _∷_, List·Memᴰ, List·Memᴰ·not-nil, List·Memᴰ·cases-cons}
 use Prim.Native.Nat.{ℕ, zero, suc, _+_, _*_, _/_, _≤_, _<_}
 use native.Mathlib.Nat.{add-zero, add-suc, suc-add, zero-add}
+use native.Mathlib.Numerals.{add-one}
 use native.Mathlib.Omega.{arith}
-use lib.ListN.{length, getD, List·getD-eq-default}
+use lib.ListN.{length, getD, drop, List·getD-eq-default}
+use lib.Seq.{drop-cons}
 
 module _ {X : Type 0} (f : ℕ → X) where
   -- f at n numbers from i on
@@ -52,3 +54,6 @@ placesUpTo n = tabulate (λ i. i) n 0
 
 pub places-at : (n i : ℕ) → i < n → getD (placesUpTo n) i 0 ≡ i
 places-at n i h = tabulate-at (λ i. i) n 0 i 0 h ∙ rw zero-add
+
+pub places-from : (n i : ℕ) → i < n → drop i (placesUpTo n) ≡ i ∷ drop (i + 1) (placesUpTo n)
+places-from n i h = drop-cons (placesUpTo n) i 0 (rw tabulate-length h) ∙ rw (places-at n i h, add-one)

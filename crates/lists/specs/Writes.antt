@@ -1,15 +1,15 @@
 -- Words written to a lent buffer from a place on; those that would stand past its end are lost.
 use mathlib.Core.Path.{_≡_, refl, sym, _∙_, ap}
 use mathlib.Core.Bool.{Bool, true, false}
-use mathlib.Core.List.{List, [], _∷_, _++_}
-use Prim.Native.Nat.{ℕ, suc, _+_, _≤_, _<_, min}
+use mathlib.Core.List.{List, [], _∷_, _++_, append-nil}
+use Prim.Native.Nat.{ℕ, suc, _+_, _-_, _≤_, _<_, min}
 use native.Mathlib.Numerals.{add-one}
 use native.Mathlib.Nat.{zero-add, add-zero, add-suc, suc-add}
 use native.Mathlib.Omega.{arith}
 use lib.Dec.{ltb}
 use borrow.Author.Tests.{ltb-true, ltb-false}
-use lib.ListN.{length, take, drop, getD, set, length-append, length-set, drop-of-length-le}
-use lib.Seq.{drop-cons, sets, sets-eq, set-out, length-sets, take-at}
+use lib.ListN.{length, take, drop, getD, set, length-append, length-set, length-drop, drop-of-length-le}
+use lib.Seq.{drop-cons, sets, sets-eq, set-out, length-sets, take-at, take-all}
 
 module _ {X : Type 0} where
   pub sets-append : (a b l : List X) (i : ℕ) → sets (sets l i a) (i + length a) b ≡ sets l i (a ++ b)
@@ -26,6 +26,14 @@ module _ {X : Type 0} where
 
   pub sets-front : (ws l : List X) → length ws ≤ length l → sets l 0 ws ≡ ws ++ drop (length ws) l
   sets-front ws l h = sets-eq ws l 0 (rw zero-add h) ∙ rw zero-add
+
+  -- a whole buffer
+  pub sets-whole : (ws l : List X) → length ws ≡ length l → sets l 0 ws ≡ ws
+  sets-whole ws l e = sets-front ws l (omega arith) ∙ rw (drop-of-length-le l {i = length ws} (omega arith), append-nil)
+
+  -- what is lent from i on is the rest
+  pub rest-of : (l : List X) (i : ℕ) → take (length l - i) (drop i l) ≡ drop i l
+  rest-of l i = take-all (length l - i) (drop i l) (rw length-drop (omega arith))
 
 -- what is left of a part from i on
 module _ (l part : List ℕ) (at i : ℕ) where

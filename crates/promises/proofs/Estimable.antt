@@ -67,6 +67,7 @@ module _ (q : GenerateInput) (room₁ room₂ : ℕ) (z : generateFault q room�
         eq-eqb (length (candidateWords q) % 6) 0 (omega (arith, words-length 0 (madeOf q))),
         kinds-fit (madeOf q) each,
         places-in (madeOf q) each,
+        a .different,
         a .levels,
       )
 

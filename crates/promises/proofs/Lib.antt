@@ -3,6 +3,7 @@ pub mod Decimals
 pub mod Rows
 pub mod Written
 pub mod Drawn
+pub mod Numbers
 pub mod Vector
 pub mod ProbeBelow
 pub mod Chain

@@ -33,6 +33,7 @@ use Rattle.l0_words.specs.L0.{l0Offers}
 use Rattle.candidate_words.specs.Candidates.{batchOf, moveOffers, levelOffers, overOffers, offersOf}
 use Rattle.l0_words.specs.Words.{wordsFrom, numbersIn}
 use Rattle.candidates.specs.Generate.{inputChecks, generateFault, generatedOf}
+use Rattle.number_order.specs.Numbers.{repeats}
 use Rattle.lookups.specs.Lookups.{lookup}
 use Rattle.reliefs.specs.Reliefs.{bytesOf, firstShare}
 use Rattle.estimates.specs.Estimate.{oldestFrom, oldestOf, estimateOf}
@@ -47,5 +48,5 @@ use Rattle.arith.specs.Logarithm.{tab, cut, rem, rule, topOf, unitsOf, lnOf}
 use Rattle.arith.specs.Whole.{roundedOf}
 
 pub rows-hold : T (all rows)
-unfolding orderOf keyLt keyLe lesserOf greaterOf recordsOf tabulate tablesOf entriesOf firstKey lastKey anyOf filterOf brokenTables brokenKeys levelsOut insertBy sortInto byKey overlaps endFrom endOf mergedOf l0Offers seedFrom seedOf batchOf isFree moveBefore movesOf moveOffers levelOffers overOffers offersOf wordsFrom numbersIn lookup bytesOf oldestFrom oldestOf estimateOf candidatesOf estimatesOf fitsKind inUnit estimateOut benefitOf scoreOf choicesFrom lastFrom lastBest yields bestWithin focused firstOr choiceOf pickFault pickedOf minimumOf withDigit floorRoot nearestRoot rootShift rootDigits rootOf tab cut rem rule topOf unitsOf lnOf roundedOf toBits lt round size all holds rows modes accepted inputChecks generateFault generatedOf estimateFault estimatedOf observedOf acceptedOf observeFault countersFull timesOf soundOf nextModeOf signalsOf blendedOf dominantOf pacingOf smoothedOf fractionOf clampOf maximumOf toUnsigned isNan le div mul sub add ofInt ofBits flatMap firstShare reselectedBy
+unfolding orderOf keyLt keyLe lesserOf greaterOf recordsOf tabulate tablesOf entriesOf firstKey lastKey anyOf filterOf brokenTables brokenKeys levelsOut repeats insertBy sortInto byKey overlaps endFrom endOf mergedOf l0Offers seedFrom seedOf batchOf isFree moveBefore movesOf moveOffers levelOffers overOffers offersOf wordsFrom numbersIn lookup bytesOf oldestFrom oldestOf estimateOf candidatesOf estimatesOf fitsKind inUnit estimateOut benefitOf scoreOf choicesFrom lastFrom lastBest yields bestWithin focused firstOr choiceOf pickFault pickedOf minimumOf withDigit floorRoot nearestRoot rootShift rootDigits rootOf tab cut rem rule topOf unitsOf lnOf roundedOf toBits lt round size all holds rows modes accepted inputChecks generateFault generatedOf estimateFault estimatedOf observedOf acceptedOf observeFault countersFull timesOf soundOf nextModeOf signalsOf blendedOf dominantOf pacingOf smoothedOf fractionOf clampOf maximumOf toUnsigned isNan le div mul sub add ofInt ofBits flatMap firstShare reselectedBy
 rows-hold = tt

@@ -5,7 +5,7 @@ use mathlib.Core.Bool.{true, false}
 use mathlib.Core.List.{List, [], _∷_, _++_, map, List·Memᴰ}
 use lib.Dec.{ltb}
 use lib.ListN.{length, drop}
-use Rattle.refusals.specs.Refusals.{_gives_, firstFault, none, tooLarge, counterFull, tooMany, badRecord, badLevel, noRoom, badLog}
+use Rattle.refusals.specs.Refusals.{_gives_, firstFault, none, tooLarge, counterFull, tooMany, badRecord, badLevel, noRoom, badLog, duplicateNumber}
 use Rattle.kinds.specs.declared.vector.PressureVector.{PressureVector}
 use Rattle.kinds.specs.declared.tier.SelectionTier.the-variants.{None as NoTier}
 use Rattle.kinds.specs.declared.winner.Winner.the-variants.{None as NoWinner, At}
@@ -97,8 +97,8 @@ LogGood r = logBad (r .log) (length (r .words)) ≡ false
 -- ---- what holds of every round whose vector is in range
 
 pub record Round (r : RoundInput) : Type 0 where
-  -- generation refuses by 4, 5, 6 or 9, if at all
-  pub generation : List·Memᴰ (generated r .refusal) (none ∷ tooMany ∷ badRecord ∷ badLevel ∷ noRoom ∷ [])
+  -- generation refuses by 4, 5, 11, 6 or 9, if at all
+  pub generation : List·Memᴰ (generated r .refusal) (none ∷ tooMany ∷ badRecord ∷ duplicateNumber ∷ badLevel ∷ noRoom ∷ [])
   -- its words are read back as what it offers, each candidate with its own numbers
   pub offered : Generates r → map (offerIn (numberWords (r .lent))) (candidates r) ≡ madeOf (r .lent)
   pub counted : Generates r → generated r .candidates ≡ length (candidates r)

@@ -1,4 +1,4 @@
--- A call's checks are a list, in 01's order (1, 10, 4, 5, 6, 7, 8, 2, 3, 9): whether the fault is there, and its number. The first that is there is given, and 0 where none is.
+-- A call's checks are a list, in 01's order with 02's 11 in it (1, 10, 4, 5, 11, 6, 7, 8, 2, 3, 9): whether the fault is there, and its number. The first that is there is given, and 0 where none is.
 use Prim.Native.Nat.{ℕ}
 use mathlib.Core.Bool.{Bool, true, false, cond}
 use mathlib.Core.List.{List, [], _∷_}
@@ -47,3 +47,6 @@ noRoom = 9
 
 abbrev pub badLog : ℕ
 badLog = 10
+
+abbrev pub duplicateNumber : ℕ
+duplicateNumber = 11

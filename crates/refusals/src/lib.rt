@@ -1,4 +1,4 @@
-// The refusal numbers, named once. Of several faults a call gives the first in this order: 1, 10, 4, 5, 6, 7, 8, 2, 3, 9. 11 to 15 are free.
+// The refusal numbers, named once. Of several faults a call gives the first in this order: 1, 10, 4, 5, 11, 6, 7, 8, 2, 3, 9. 12 to 15 are free.
 
 pub const NONE: u64 = 0;
 
@@ -31,6 +31,9 @@ pub const NO_ROOM: u64 = 9;
 
 // The log buffer isn't 57,344 words, its first place exceeds 4,095, or its count exceeds 4,096.
 pub const BAD_LOG: u64 = 10;
+
+// A number occurs twice in a table list.
+pub const DUPLICATE_NUMBER: u64 = 11;
 
 // What a call answers whose result is bytes at the front of a lent buffer: its refusal, and how many they are, 0 beside a refusal.
 pub struct Written {

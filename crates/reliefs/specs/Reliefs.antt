@@ -31,14 +31,13 @@ unfoldable pub firstShare : List Entry → ℕ → ℕ → Float
 firstShare [] bytes total = f0
 firstShare (e ∷ es) bytes total = shareOf bytes total (e .budget)
 
--- the share by the first entry with the level
+-- the share by the first entry with the level, whose bytes are `total`
+abbrev pub reliefBy : List Entry → ℕ → ℕ → ℕ → Float
+reliefBy es level bytes total = firstShare (filterOf (λ e. eqb (e .level) level) es) bytes total
+
 abbrev pub reliefOf : List Table → List Entry → ℕ → ℕ → Float
-reliefOf ts es level bytes = firstShare (filterOf (λ e. eqb (e .level) level) es) bytes (bytesOf (atLevel level ts))
+reliefOf ts es level bytes = reliefBy es level bytes (bytesOf (atLevel level ts))
 
--- the same of a level's bytes that stop
-abbrev pub stoppedRelief : List Table → List Entry → ℕ → ℕ → Float
-stoppedRelief ts es level bytes = firstShare (filterOf (λ e. eqb (e .level) level) es) bytes (levelBytes level ts)
-
--- which is that very share where they fit
-pub relief-exact : (ts : List Table) (es : List Entry) (level bytes : ℕ) → bytesOf (atLevel level ts) ≤ 2 ^ 64 - 1 → stoppedRelief ts es level bytes ≡ reliefOf ts es level bytes
-relief-exact ts es level bytes h = rw (min-eq-left h)
+-- a level's bytes that stop give that very share where they fit
+pub relief-exact : (ts : List Table) (es : List Entry) (level bytes total : ℕ) → total ≡ levelBytes level ts → bytesOf (atLevel level ts) ≤ 2 ^ 64 - 1 → reliefBy es level bytes total ≡ reliefOf ts es level bytes
+relief-exact ts es level bytes total e h = rw (e, min-eq-left h)

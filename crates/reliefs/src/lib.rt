@@ -1,19 +1,19 @@
 // What share of a level's excess some bytes are. Nothing here is refused: a level's bytes stop at the largest u64.
 ghost use mathlib.Core.Path.{_≡_};
 ghost use Rattle.records.specs.Tables.{tablesOf, entriesOf};
-ghost use Rattle.reliefs.specs.Reliefs.{levelBytes, shareOf, stoppedRelief};
+ghost use Rattle.reliefs.specs.Reliefs.{levelBytes, shareOf, reliefBy};
 use arith::whole;
 
-// By the first entry with the level.
-pub fn debt_relief(tables: &[u64], over: &[u64], level: u64, bytes: u64) -> f64
-    ensures { λ r. ⌜ r ≡ stoppedRelief (tablesOf (now (tables .entry))) (entriesOf (now (over .entry))) level bytes ⌝ }
+// By the first entry with the level, whose bytes are `total`.
+pub fn debt_relief(over: &[u64], level: u64, bytes: u64, total: u64) -> f64
+    ensures { λ r. ⌜ r ≡ reliefBy (entriesOf (now (over .entry))) level bytes total ⌝ }
 {
     let n = records::tables::entry_count(over);
     let mut i: usize = 0;
     while i < n {
         let e = records::tables::entry_at(over, i);
         if e.level == level {
-            return share(bytes, level_bytes(tables, level), e.budget);
+            return share(bytes, total, e.budget);
         }
         i += 1;
     }
@@ -27,7 +27,7 @@ fn share(bytes: u64, total: u64, budget: u64) -> f64
     arith::floats::minimum(whole::of_u64(bytes) / whole::of_u64(excess), 1.0)
 }
 
-fn level_bytes(tables: &[u64], level: u64) -> u64
+pub fn level_bytes(tables: &[u64], level: u64) -> u64
     ensures { λ r. ⌜ r ≡ levelBytes level (tablesOf (now (tables .entry))) ⌝ }
 {
     let n = records::tables::table_count(tables);

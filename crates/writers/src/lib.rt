@@ -52,7 +52,7 @@ pub fn put_batch(
     put_merged(tables, keys, lo, hi, &places[..len], next, out, at)
 }
 
-// The same of any number of tables.
+// The same of any number of tables. Where there is no next level, the range is of no use.
 pub fn put_many(
     tables: &[u64],
     keys: &[u8],
@@ -63,6 +63,9 @@ pub fn put_many(
 ) -> usize
     ensures { λ r. ⌜ Filled (now (out .entry)) at (mergedOf (now (keys .entry)) (tablesOf (now (tables .entry))) (now (next .entry)) (now (places .entry))) (now (out .exit)) (at + r) ⌝ }
 {
+    if next.len() == 0 {
+        return put_numbers(tables, places, out, at);
+    }
     let lo = ranges::low(tables, keys, places);
     let hi = ranges::high(tables, keys, places);
     put_merged(tables, keys, lo, hi, places, next, out, at)

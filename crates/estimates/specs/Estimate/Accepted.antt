@@ -21,8 +21,9 @@ use Rattle.estimates.specs.Estimate.{estimateOf, nineWords}
 use Rattle.estimate_faults.specs.Faults.{EstimateInput, estimateChecks, estimateFault}
 use Rattle.estimates.specs.Estimate.Call.{estimateWords, estimatedOf, estimatesOut}
 use Rattle.lists.specs.Flat.{flat-length}
-use Rattle.refusals.specs.Refusals.{none}
-use Rattle.refusals.specs.Checks.{none-found}
+use Rattle.refusals.specs.Refusals.{none, tooMany, badRecord, duplicateNumber, tooLarge, noRoom}
+use Rattle.refusals.specs.Checks.{checkFor, clear-for}
+use Rattle.number_order.specs.Numbers.{repeats}
 use Rattle.estimates.specs.Estimate.Members.{Small, small-tables}
 use Rattle.lists.specs.Tests.{neither, by-test}
 
@@ -37,6 +38,7 @@ pub record Accepted (q : EstimateInput) (room : ℕ) : Type 0 where
   pub sound : (i : ℕ) → i < length (candidatesOf (q .candidates)) → Sound (tablesOf (q .tables)) (length (q .numbers)) (candidateAt (candidatesOf (q .candidates)) i)
   pub few : tooManyCandidates (q .candidates) ≡ false
   pub kinds : brokenCandidates (q .candidates) ≡ false
+  pub different : repeats (tablesOf (q .tables)) ≡ false
   pub low : q .next ≤ 2 ^ 53
   pub fits : 9 * length (candidatesOf (q .candidates)) ≤ room
 
@@ -53,9 +55,9 @@ accepted q room e =
     let cs = candidatesOf (q .candidates) in
     let ts = tablesOf (q .tables) in
     let n = length (q .numbers) in
-    let z = none-found (estimateChecks q room) tt e in
-    let many = no-one (tooManyTables (q .tables)) (tooManyEntries (q .over)) (tooManyCandidates (q .candidates)) (anyOf tooManyNumbers cs) (z .0) in
-    let broken = no-one (brokenTables (q .tables)) (brokenEntries (q .over)) (brokenCandidates (q .candidates)) (anyOf (numbersOut n) cs) (z .1 .0) in
+    let clear : (m : ℕ) → checkFor m (estimateChecks q room) ≡ false = λ m. clear-for m (estimateChecks q room) tt e in
+    let many = no-one (tooManyTables (q .tables)) (tooManyEntries (q .over)) (tooManyCandidates (q .candidates)) (anyOf tooManyNumbers cs) (clear tooMany) in
+    let broken = no-one (brokenTables (q .tables)) (brokenEntries (q .over)) (brokenCandidates (q .candidates)) (anyOf (numbersOut n) cs) (clear badRecord) in
     record {
       sound = λ i h.
           let here = getD-in cs i noCandidate h in
@@ -67,8 +69,9 @@ accepted q room e =
           };
       few = many .2;
       kinds = broken .2;
-      low = ltb-false (2 ^ 53) (q .next) (z .1 .1 .1 .0);
-      fits = ltb-false room (9 * length cs) (z .1 .1 .1 .1 .0);
+      different = clear duplicateNumber;
+      low = ltb-false (2 ^ 53) (q .next) (clear tooLarge);
+      fits = ltb-false room (9 * length cs) (clear noRoom);
     }
 
 -- the answer's refusal is the call's fault

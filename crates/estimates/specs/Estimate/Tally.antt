@@ -16,7 +16,7 @@ use Rattle.records.specs.declared.tables.Table.{Table}
 use Rattle.records.specs.declared.tables.Entry.{Entry}
 use Rattle.candidate_records.specs.declared.Candidate.{Candidate}
 use Rattle.estimates.specs.declared.Tally.{Tally}
-use Rattle.reliefs.specs.Reliefs.{atLevel, bytesOf, stoppedRelief, relief-exact}
+use Rattle.reliefs.specs.Reliefs.{atLevel, bytesOf, levelBytes, reliefBy, relief-exact}
 use Rattle.estimates.specs.Estimate.{matched, offLevel, oldestFrom, oldestOf, inputsOf, estimateOf}
 use Rattle.estimates.specs.Estimate.Members.{Small, level-bytes}
 
@@ -133,7 +133,7 @@ module _ (ts : List Table) (next : ℕ) (es : List Entry) (ns : List ℕ) (c : C
   unfolding estimateOf tallyOf
   estimate-l0 k e a = rw (a, e, own-is ns c, eq-eqb _ _ k, ne-eqb (c .kind) 3 (λ z. omega arith))
 
-  pub estimate-level : {rewrite : ℕ} {relief : Float} → Small ts → length ts ≤ 1024 → (c .kind ≡ 1 → ⊥) → t ≡ tallyOf (c .level) next (matched ts (ownOf ns c)) → rewrite ≡ cond (eqb (c .kind) 3) 0 (t .input + t .overlap) → age ≡ next - t .oldest → relief ≡ stoppedRelief ts es (c .level) (t .input) → record {
+  pub estimate-level : {rewrite total : ℕ} {relief : Float} → Small ts → length ts ≤ 1024 → (c .kind ≡ 1 → ⊥) → t ≡ tallyOf (c .level) next (matched ts (ownOf ns c)) → rewrite ≡ cond (eqb (c .kind) 3) 0 (t .input + t .overlap) → age ≡ next - t .oldest → total ≡ levelBytes (c .level) ts → relief ≡ reliefBy es (c .level) (t .input) total → record {
     «input_bytes» = t .input;
     «overlap_bytes» = t .overlap;
     «estimated_rewrite_bytes» = rewrite;
@@ -145,6 +145,6 @@ module _ (ts : List Table) (next : ℕ) (es : List Entry) (ns : List ℕ) (c : C
     «read_relief» = f0;
   } ≡ estimateOf ts next es ns c
   unfolding estimateOf tallyOf
-  estimate-level small few k e w a r =
+  estimate-level {total = total} small few k e w a b r =
       let fits : bytesOf (atLevel (c .level) ts) ≤ 2 ^ 64 - 1 = omega (arith, level-bytes ts (c .level) small few) in
-      rw (w, a, r, relief-exact ts es (c .level) (t .input) fits, e, own-is ns c, ne-eqb _ _ k)
+      rw (w, a, r, relief-exact ts es (c .level) (t .input) total b fits, e, own-is ns c, ne-eqb _ _ k)

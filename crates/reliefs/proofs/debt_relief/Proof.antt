@@ -19,29 +19,29 @@ abbrev hasLevel : ℕ → Entry → Bool
 hasLevel level e = eqb (e .level) level
 
 abbrev Inv-loop : tie.InvT-loop
-Inv-loop tables over level bytes n i₀ i = (i ≤ length (entriesOf over)) × (filterOf (hasLevel level) (entriesOf over) ≡ filterOf (hasLevel level) (drop i (entriesOf over)))
+Inv-loop over level bytes total n i₀ i = (i ≤ length (entriesOf over)) × (filterOf (hasLevel level) (entriesOf over) ≡ filterOf (hasLevel level) (drop i (entriesOf over)))
 
 abbrev μ-loop : tie.MeasureT-loop
-μ-loop tables over level bytes n i₀ i = length (entriesOf over) - i
+μ-loop over level bytes total n i₀ i = length (entriesOf over) - i
 
 loop-holds : tie.Need-loop-holds Inv-loop μ-loop
 loop-holds c = (omega arith, refl)
 
 returns : tie.Need-returns Inv-loop μ-loop
 unfolding firstShare
-returns c = let a = c .before .before .before .before .before .before .before .before .before .before .args in let l = c .before .before .before .before .before .before .loop in let e = c .before .before .before .before .entry-at .ensures in
-    c .share .ensures ∙ rw (c .before .level-bytes .ensures, e, l .inv .1, filter-keep (hasLevel (a .level)) (entriesOf (now (a .over))) (l .i) noEntry (omega arith) (rw e at (eq-eqb _ _ (c .before .before .if1 .taken))))
+returns c = let a = c .before .before .before .before .before .before .before .before .args in let l = c .before .before .before .before .before .loop in let e = c .before .before .before .entry-at .ensures in
+    c .share .ensures ∙ rw (e, l .inv .1, filter-keep (hasLevel (a .level)) (entriesOf (now (a .over))) (l .i) noEntry (omega arith) (rw e at (eq-eqb _ _ (c .before .if1 .taken))))
 
 loop-less : tie.Need-loop-less Inv-loop μ-loop
 loop-less c = search needs
 
 loop-again : tie.Need-loop-again Inv-loop μ-loop
-loop-again c = let a = c .before .before .before .before .before .before .before .before .args in let l = c .before .before .before .before .loop in
+loop-again c = let a = c .before .before .before .before .before .before .before .args in let l = c .before .before .before .before .loop in
     (omega arith, l .inv .1 ∙ filter-skip (hasLevel (a .level)) (entriesOf (now (a .over))) (l .i) noEntry (omega arith) (rw (c .before .before .entry-at .ensures) at (ne-eqb _ _ (c .if1 .left))))
 
 returns-2 : tie.Need-returns-2 Inv-loop μ-loop
 unfolding firstShare
-returns-2 c = let a = c .before .before .before .before .before .args in let l = c .before .loop in rw (l .inv .1, filter-end (hasLevel (a .level)) (entriesOf (now (a .over))) (l .i) (omega arith))
+returns-2 c = let a = c .before .before .before .before .args in let l = c .before .loop in rw (l .inv .1, filter-end (hasLevel (a .level)) (entriesOf (now (a .over))) (l .i) (omega arith))
 
 pub debt-relief-spec : {M : Type 1} → statement M
 debt-relief-spec =
@@ -51,7 +51,6 @@ debt-relief-spec =
     μ-loop
     (λ c κs. tt)
     loop-holds
-    (λ c κs. tt)
     (λ c κs. tt)
     (λ c κs. tt)
     returns
