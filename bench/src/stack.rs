@@ -53,9 +53,12 @@ fn line(name: &str, port: impl FnMut(), rust: impl FnMut()) {
 pub fn depths() {
     println!("\n{:58} {:>10} {:>10}", "stack: bytes below the caller's frame", "port", "Rust");
     let mut room = Room::new();
+    let mut but_one = data::one_level(1024, 3, 0, 0);
+    but_one[0].level = 1;
     let cases = [
         ("four levels, 1,024 tables, 3 entries", Case::new(&data::four_levels(1024, 1024), &[1, 2, 3], 4)),
         ("1,024 tables in L0", Case::new(&data::one_level(1024, 3, 0, 0), &[], 4)),
+        ("1,023 tables in L0, one in level 1", Case::new(&but_one, &[], 4)),
         ("1,024 tables in level 1, one entry", Case::new(&data::one_level(1024, 3, 0, 1), &[1], 4)),
         ("no table", Case::new(&[], &[1], 4)),
     ];

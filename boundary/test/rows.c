@@ -372,7 +372,7 @@ static void arithmetic(void) {
     WANT(coinhamper_compare(NULL, 0, NULL, 0) == 1 && coinhamper_compare(NULL, 0, b, 1) == 0 && coinhamper_compare(high, 1, b, 1) == 2);
 }
 
-/* How deep the stack goes: generation on a painted stack, from 1,024 tables of level 0 and of 17 levels. */
+/* How deep the stack goes: generation on a painted stack, from 1,024 tables, all but one of level 0, and of 17 levels. */
 static uint64_t deep_tables[7 * 1024], deep_over[32], deep_candidates[COINHAMPER_MOST_CANDIDATE_WORDS], deep_numbers[145 * 1024];
 
 static void *generates(void *refusal) {
@@ -390,7 +390,7 @@ static void stacks(void) {
     size_t deepest = 0;
     for (uint64_t levels = 1; levels <= 17; levels += 16) {
         for (uint64_t i = 0; i < 1024; i++)
-            memcpy(deep_tables + 7 * i, (uint64_t[]){i, i % levels, i, 2 * (1023 - i), 2, 2 * (1023 - i), 2}, 7 * 8);
+            memcpy(deep_tables + 7 * i, (uint64_t[]){i, levels == 1 ? i == 1023 : i % levels, i, 2 * (1023 - i), 2, 2 * (1023 - i), 2}, 7 * 8);
         for (uint64_t i = 0; i < 16; i++) memcpy(deep_over + 2 * i, (uint64_t[]){i, 1}, 2 * 8);
         memset(stack, 0xa5, size);
         pthread_attr_t kind;
