@@ -1,4 +1,4 @@
-/* The C test of libcoinhamper.a: test rows | frozen QUESTIONS ANSWERS | hostile SEED CALLS | run SEED CALLS */
+/* The C test of libcoinhamper.a: test rows | stack | frozen QUESTIONS ANSWERS | hostile SEED CALLS | run SEED CALLS */
 #include "test.h"
 
 int main(int n, char **words) {
@@ -10,6 +10,8 @@ int main(int n, char **words) {
     unsigned long calls = n == 4 ? strtoul(words[3], NULL, 10) : 0;
     if (n == 2 && !strcmp(words[1], "rows")) {
         rows();
+    } else if (n == 2 && !strcmp(words[1], "stack")) {
+        stacks();
     } else if (n == 4 && !strcmp(words[1], "frozen")) {
         printf("frozen rows: %lu asked through the library\n", frozen(words[2], words[3]));
     } else if (n == 4 && !strcmp(words[1], "hostile")) {
@@ -19,7 +21,7 @@ int main(int n, char **words) {
         seed(strtoull(words[2], NULL, 10));
         state_run(calls);
     } else {
-        fputs("test rows | frozen QUESTIONS ANSWERS | hostile SEED CALLS | run SEED CALLS\n", stderr);
+        fputs("test rows | stack | frozen QUESTIONS ANSWERS | hostile SEED CALLS | run SEED CALLS\n", stderr);
         return 2;
     }
     printf("%s: %lu wants, %lu missed\n", words[1], wanted, missed);

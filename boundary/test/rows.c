@@ -3,7 +3,6 @@
 #include "test.h"
 #include <fenv.h>
 #include <math.h>
-#include <pthread.h>
 #if defined __x86_64__
 #include <xmmintrin.h>
 #endif
@@ -372,42 +371,6 @@ static void arithmetic(void) {
     WANT(coinhamper_compare(NULL, 0, NULL, 0) == 1 && coinhamper_compare(NULL, 0, b, 1) == 0 && coinhamper_compare(high, 1, b, 1) == 2);
 }
 
-/* How deep the stack goes: generation on a painted stack, from 1,024 tables, all but one of level 0, and of 17 levels. */
-static uint64_t deep_tables[7 * 1024], deep_over[32], deep_candidates[COINHAMPER_MOST_CANDIDATE_WORDS], deep_numbers[145 * 1024];
-
-static void *generates(void *refusal) {
-    uint8_t deep_keys[2048];
-    size_t c, m;
-    for (size_t i = 0; i < sizeof deep_keys; i++) deep_keys[i] = (uint8_t)(i % 2 ? i / 2 : i / 512);
-    *(uint64_t *)refusal = coinhamper_generate_candidates(deep_tables, 7 * 1024, deep_keys, sizeof deep_keys, 1, deep_over, 32, deep_candidates,
-        COINHAMPER_MOST_CANDIDATE_WORDS, deep_numbers, 145 * 1024, &c, &m);
-    return NULL;
-}
-
-static void stacks(void) {
-    const size_t size = 1 << 20;
-    uint8_t *stack = aligned_alloc(4096, size);
-    size_t deepest = 0;
-    for (uint64_t levels = 1; levels <= 17; levels += 16) {
-        for (uint64_t i = 0; i < 1024; i++)
-            memcpy(deep_tables + 7 * i, (uint64_t[]){i, levels == 1 ? i == 1023 : i % levels, i, 2 * (1023 - i), 2, 2 * (1023 - i), 2}, 7 * 8);
-        for (uint64_t i = 0; i < 16; i++) memcpy(deep_over + 2 * i, (uint64_t[]){i, 1}, 2 * 8);
-        memset(stack, 0xa5, size);
-        pthread_attr_t kind;
-        pthread_t thread;
-        uint64_t refusal = 1;
-        pthread_attr_init(&kind);
-        pthread_attr_setstack(&kind, stack, size);
-        WANT(pthread_create(&thread, &kind, generates, &refusal) == 0 && pthread_join(thread, NULL) == 0 && refusal == 0);
-        size_t free_bytes = 0;
-        while (stack[free_bytes] == 0xa5) free_bytes++;
-        if (size - free_bytes > deepest) deepest = size - free_bytes;
-    }
-    printf("rows: generation took %zu bytes of stack, a thread's own among them\n", deepest);
-    WANT(deepest < 200000);
-    free(stack);
-}
-
 /* Why the caller owes the default floating-point environment: told, not wanted. */
 static void environment(void) {
 #if defined __x86_64__
@@ -443,6 +406,5 @@ void rows(void) {
     tables_of_logs();
     texts();
     arithmetic();
-    stacks();
     environment();
 }

@@ -35,6 +35,7 @@ double unit_float(void);
 
 /* The parts. */
 void rows(void);
+void stacks(void);
 unsigned long frozen(const char *questions, const char *answers);
 void hostile(unsigned long calls);
 void state_run(unsigned long calls);

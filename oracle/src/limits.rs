@@ -3,6 +3,7 @@
 use crate::ask;
 use crate::fits;
 use crate::make_log::{ENDS, SHORTEST, as_words, line_of};
+use crate::offered;
 use crate::question::{Arg, Question};
 use crate::state::{LARGE, Sample, State};
 use crate::tables;
@@ -113,7 +114,7 @@ fn word(q: &mut Question, i: usize, n: u64) {
     list(q, 0)[i] = n;
 }
 
-fn room(n: usize) -> Vec<u64> {
+pub fn room(n: usize) -> Vec<u64> {
     (0..n as u64).map(|i| 7000 + i).collect()
 }
 
@@ -408,6 +409,7 @@ pub fn all() -> Vec<Question> {
         .questions_and(&[(4, 11), (5, 6), (11, 2), (11, 9)]),
     );
     out.extend(table_numbers());
+    out.extend(offered::all());
     out.extend(candidates_at_limits(estimation, 3));
     let mut limits = estimation();
     *list(&mut limits, 3) = [3, 1, 0, 2, 0, 9].repeat(145);

@@ -20,6 +20,7 @@ mod logged;
 mod make;
 mod make_log;
 mod numbers;
+mod offered;
 mod original;
 mod port;
 mod question;

@@ -22,7 +22,7 @@ fn put_ordered(
     numbers: &mut [u64],
     at: Ends,
 ) -> Ends
-    requires { ⌜ (level < 2 ^ 32) × (length (now order) ≤ 1024) ⌝ }
+    requires { ⌜ level < 2 ^ 32 ⌝ }
     requires { ⌜ Fit at (levelOffers (now keys) (tablesOf (now tables)) level (now next) (now order)) ⌝ }
     ensures { λ r. ⌜ Written at (levelOffers (now (keys .entry)) (tablesOf (now (tables .entry))) level (now (next .entry)) (now (order .entry))) (now (candidates .entry)) (now (candidates .exit)) (now (numbers .entry)) (now (numbers .exit)) r ⌝ }
 {

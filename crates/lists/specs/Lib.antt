@@ -7,6 +7,7 @@ pub mod Flat
 pub mod Records
 pub mod Sort
 pub mod Sorting
+pub mod Cutting
 pub mod Ordered
 pub mod Inserting
 pub mod Merge

@@ -5,19 +5,20 @@ use mathlib.Core.Logic.{_⊎_, inl, inr, ⊎-elim}
 use mathlib.Core.Bool.{true}
 use mathlib.Core.List.{List, [], _∷_, List·Memᴰ, List·Memᴰ·head, List·Memᴰ·tail, List·Memᴰ·not-nil, List·Memᴰ·cases-cons}
 use Rattle.keys.specs.Keys.{keyLe, lesserOf, greaterOf}
-use Rattle.keys.specs.TotalOrder.{le-refl, le-trans}
+use Rattle.keys.specs.TotalOrder.{le-refl, le-antisym, le-trans}
 use Rattle.keys.specs.Lesser.{lesser-least, greater-most, lesser-one, greater-one}
 use Rattle.records.specs.declared.tables.Table.{Table}
 use Rattle.records.specs.Tables.{firstAt, lastAt}
 use Rattle.ranges.specs.Ranges.{endFrom, endOf, lowOf, highOf}
 
--- of two keys `pick` takes one, and that one stands to both as `stands` says
-record Picks (pick : List ℕ → List ℕ → List ℕ) (stands : List ℕ → List ℕ → Type 0) : Type 0 where
-  one : (a b : List ℕ) → (pick a b ≡ a) ⊎ (pick a b ≡ b)
-  self : (a : List ℕ) → stands a a
-  first : (a b : List ℕ) → stands (pick a b) a
-  second : (a b : List ℕ) → stands (pick a b) b
-  through : (a b c : List ℕ) → stands a b → stands b c → stands a c
+-- of two keys `pick` takes one, and that one stands to both as `stands` says, which is an order
+pub record Picks (pick : List ℕ → List ℕ → List ℕ) (stands : List ℕ → List ℕ → Type 0) : Type 0 where
+  pub one : (a b : List ℕ) → (pick a b ≡ a) ⊎ (pick a b ≡ b)
+  pub self : (a : List ℕ) → stands a a
+  pub first : (a b : List ℕ) → stands (pick a b) a
+  pub second : (a b : List ℕ) → stands (pick a b) b
+  pub through : (a b c : List ℕ) → stands a b → stands b c → stands a c
+  pub both : (a b : List ℕ) → stands a b → stands b a → a ≡ b
 
 -- an end is the key of one of the places, and stands so to the key of each
 pub record IsEnd (stands : List ℕ → List ℕ → Type 0) (key : ℕ → List ℕ) (ps : List ℕ) (end : List ℕ) : Type 0 where
@@ -68,11 +69,13 @@ AtMost a b = keyLe a b ≡ true
 abbrev pub AtLeast : List ℕ → List ℕ → Type 0
 AtLeast a b = keyLe b a ≡ true
 
-lesser-picks : Picks lesserOf AtMost
-lesser-picks = record { one = lesser-one; self = le-refl; first = λ a b. lesser-least a b .0; second = λ a b. lesser-least a b .1; through = le-trans }
+pub lesser-picks : Picks lesserOf AtMost
+lesser-picks =
+    record { one = lesser-one; self = le-refl; first = λ a b. lesser-least a b .0; second = λ a b. lesser-least a b .1; through = le-trans; both = le-antisym }
 
-greater-picks : Picks greaterOf AtLeast
-greater-picks = record { one = greater-one; self = le-refl; first = λ a b. greater-most a b .0; second = λ a b. greater-most a b .1; through = λ a b c f g. le-trans c b a g f }
+pub greater-picks : Picks greaterOf AtLeast
+greater-picks =
+    record { one = greater-one; self = le-refl; first = λ a b. greater-most a b .0; second = λ a b. greater-most a b .1; through = λ a b c f g. le-trans c b a g f; both = λ a b f g. le-antisym a b g f }
 
 module _ (ks : List ℕ) (ts : List Table) (p : ℕ) (ps : List ℕ) where
   pub low-least : IsEnd AtMost (firstAt ks ts) (p ∷ ps) (lowOf ks ts (p ∷ ps))

@@ -1,4 +1,4 @@
 -- Ranges of keys, and their laws.
 pub mod Ranges
-pub mod Steps
 pub mod Least
+pub mod Halves

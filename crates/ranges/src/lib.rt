@@ -1,9 +1,7 @@
 // The range of some tables: the smallest of their first keys and the largest of their last keys, each as that part of the key bytes. Nothing is refused: of no table it is the empty part.
 ghost use mathlib.Core.Path.{_≡_};
-ghost use lib.ListN.{drop};
-ghost use Rattle.records.specs.Tables.{tablesOf, firstAt, lastAt};
-ghost use Rattle.keys.specs.Keys.{lesserOf, greaterOf};
-ghost use Rattle.ranges.specs.Ranges.{endFrom, lowOf, highOf};
+ghost use Rattle.records.specs.Tables.{tablesOf};
+ghost use Rattle.ranges.specs.Ranges.{lowOf, highOf};
 ghost use Rattle.offers.specs.Offers.{heldIn};
 use counts::smaller;
 use keys::greater;
@@ -29,14 +27,21 @@ pub fn batch_high<'a>(tables: &[u64], keys: &'a [u8], b: Batch) -> &'a [u8]
     high(tables, keys, &places[..len])
 }
 
+// By halves, so that 1,024 places are ten calls deep; recursion, since a call's result can't be laid in a local that holds a reference.
 pub fn low<'a>(tables: &[u64], keys: &'a [u8], places: &[usize]) -> &'a [u8]
     ensures { λ r. ⌜ now r ≡ lowOf (now (keys .entry)) (tablesOf (now (tables .entry))) (now (places .entry)) ⌝ }
 {
     if places.len() == 0 {
         return part(keys, 0, 0);
     }
-    let t = tables::table_at(tables, places[0]);
-    low_from(tables, keys, places, 1, tables::first_key(keys, t))
+    if places.len() == 1 {
+        return tables::first_key(keys, tables::table_at(tables, places[0]));
+    }
+    let half = places.len() / 2;
+    lesser(
+        low(tables, keys, &places[..half]),
+        low(tables, keys, &places[half..]),
+    )
 }
 
 pub fn high<'a>(tables: &[u64], keys: &'a [u8], places: &[usize]) -> &'a [u8]
@@ -45,51 +50,12 @@ pub fn high<'a>(tables: &[u64], keys: &'a [u8], places: &[usize]) -> &'a [u8]
     if places.len() == 0 {
         return part(keys, 0, 0);
     }
-    let t = tables::table_at(tables, places[0]);
-    high_from(tables, keys, places, 1, tables::last_key(keys, t))
-}
-
-// Recursion, since a call's result can't be laid in a local that holds a reference.
-fn low_from<'a>(
-    tables: &[u64],
-    keys: &'a [u8],
-    places: &[usize],
-    i: usize,
-    best: &'a [u8],
-) -> &'a [u8]
-    ensures { λ r. ⌜ now r ≡ endFrom lesserOf (firstAt (now (keys .entry)) (tablesOf (now (tables .entry)))) (now (best .entry)) (drop i (now (places .entry))) ⌝ }
-{
-    if places.len() <= i {
-        return best;
+    if places.len() == 1 {
+        return tables::last_key(keys, tables::table_at(tables, places[0]));
     }
-    let t = tables::table_at(tables, places[i]);
-    low_from(
-        tables,
-        keys,
-        places,
-        i + 1,
-        lesser(best, tables::first_key(keys, t)),
-    )
-}
-
-fn high_from<'a>(
-    tables: &[u64],
-    keys: &'a [u8],
-    places: &[usize],
-    i: usize,
-    best: &'a [u8],
-) -> &'a [u8]
-    ensures { λ r. ⌜ now r ≡ endFrom greaterOf (lastAt (now (keys .entry)) (tablesOf (now (tables .entry)))) (now (best .entry)) (drop i (now (places .entry))) ⌝ }
-{
-    if places.len() <= i {
-        return best;
-    }
-    let t = tables::table_at(tables, places[i]);
-    high_from(
-        tables,
-        keys,
-        places,
-        i + 1,
-        greater(best, tables::last_key(keys, t)),
+    let half = places.len() / 2;
+    greater(
+        high(tables, keys, &places[..half]),
+        high(tables, keys, &places[half..]),
     )
 }

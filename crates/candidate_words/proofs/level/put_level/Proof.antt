@@ -1,13 +1,12 @@
 -- `candidate_words::level::put_level` meets its contract. The level and the next stand at the front of their arrays.
 use mathlib.Core.Path.{refl}
 use Prim.Native.Nat.{_+_}
-use native.Mathlib.Omega.{arith}
 use lib.ListN.{replicate}
 use denote.Ref.{now}
 use borrow.Author.Needs.{needs}
 use Rattle.records.specs.Tables.{tablesOf}
 use Rattle.levels.specs.Levels.{placesOf, byKey}
-use Rattle.levels.specs.Bounds.{byKey-small, places-front, sorted-front}
+use Rattle.levels.specs.Bounds.{places-front, sorted-front}
 use Rattle.lists.specs.Writes.{Fronted}
 use Rattle.candidate_words.proofs.level.put_level.Statement.{statement}
 use Rattle.candidate_words.proofs.level.put_level.Tie as tie
@@ -42,8 +41,8 @@ slice-aggregate-put-ordered-2 : tie.Need-slice-aggregate-put-ordered-2
 slice-aggregate-put-ordered-2 c = second (c .before .before .before) .long
 
 put-ordered-requires : tie.Need-put-ordered-requires
-put-ordered-requires c κs = let a = c .before .before .before .before .before .before .before .before .before .before .before .before .before .before .args in
-    rw (first (c .before .before .before .before .before .before .before .before) .taken, second (c .before .before .before .before .before) .taken) ((c .before .before .before .before .before .before .before .before .before .before .before .before .before .before .pre .0 .1, omega (arith, byKey-small (now (a .keys)) (tablesOf (now (a .tables))) (a .level), c .before .before .before .before .before .before .before .before .before .before .before .before .before .before .pre .0 .0)), c .before .before .before .before .before .before .before .before .before .before .before .before .before .before .pre .1)
+put-ordered-requires c κs =
+    rw (first (c .before .before .before .before .before .before .before .before) .taken, second (c .before .before .before .before .before) .taken) (c .before .before .before .before .before .before .before .before .before .before .before .before .before .before .pre .0 .1, c .before .before .before .before .before .before .before .before .before .before .before .before .before .before .pre .1)
 
 same-length : tie.Need-same-length
 same-length c = c .before .before .before .before .put-ordered .kept .1 .1 .1 .1 .1 .0

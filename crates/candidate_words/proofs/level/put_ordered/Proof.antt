@@ -6,8 +6,7 @@ use lib.ListN.{take, length, drop, length-drop}
 use lib.Seq.{take-all}
 use denote.Ref.{now}
 use borrow.Author.Needs.{needs}
-use Rattle.offers.specs.Offers.{seedOf, heldIn}
-use Rattle.trivial_moves.specs.Moves.{movesOf}
+use Rattle.offers.specs.Offers.{seedOf}
 use Rattle.candidate_words.specs.Candidates.{levelOffers}
 use Rattle.records.specs.Tables.{tablesOf}
 use Rattle.candidate_words.specs.Writing.{fit-left, fit-right, written-append}
@@ -24,13 +23,6 @@ run c =
     let ps = now (c .before .before .before .before .before .before .before .args .order) in
     take-all (length ps - c .seed .result) (drop (c .seed .result) ps) (simp length-drop (omega arith)) ∙ rw (c .seed .ensures)
 
--- the order is short enough for all of it to be looked at
-held : (c : tie.After-free-moves) → let a = c .before .before .before .before .before .before .before .before .before .before .before .before .before .before .before .before .args in heldIn (c .free-moves .result) ≡ movesOf (now (a .keys)) (tablesOf (now (a .tables))) (now (a .next)) (now (a .order))
-held c =
-    let a = c .before .before .before .before .before .before .before .before .before .before .before .before .before .before .before .before .args in
-    let h = rw (take-all 1024 (now (a .order)) (c .before .before .before .before .before .before .before .before .before .before .before .before .before .before .before .before .pre .0 .1)) at (c .free-moves .ensures) in
-    h .places
-
 mul-put-batches : tie.Need-mul-put-batches
 mul-put-batches c = omega (arith, within c)
 
@@ -42,11 +34,11 @@ part-put-batches-start c = within c
 
 put-batches-requires : tie.Need-put-batches-requires
 unfolding levelOffers
-put-batches-requires c κs = (c .before .before .before .before .before .before .before .before .before .before .pre .0 .0, rw (run (c .before .before .before)) (fit-left _ _ _ (c .before .before .before .before .before .before .before .before .before .before .pre .1)))
+put-batches-requires c κs = (c .before .before .before .before .before .before .before .before .before .before .pre .0, rw (run (c .before .before .before)) (fit-left _ _ _ (c .before .before .before .before .before .before .before .before .before .before .pre .1)))
 
 put-moves-requires : tie.Need-put-moves-requires
 unfolding levelOffers
-put-moves-requires c κs = (c .before .before .before .before .before .before .before .before .before .before .before .before .before .before .before .before .before .before .pre .0 .0, rw (held (c .before .before)) (fit-right _ _ _ _ _ _ _ _ (c .before .before .before .before .before .before .before .before .before .before .before .before .before .before .before .before .before .before .pre .1) (rw (run (c .before .before .before .before .before .before .before .before .before .before .before)) at (c .before .before .before .before .before .before .before .put-batches .ensures))))
+put-moves-requires c κs = (c .before .before .before .before .before .before .before .before .before .before .before .before .before .before .before .before .before .before .pre .0, rw (c .before .before .free-moves .ensures .places) (fit-right _ _ _ _ _ _ _ _ (c .before .before .before .before .before .before .before .before .before .before .before .before .before .before .before .before .before .before .pre .1) (rw (run (c .before .before .before .before .before .before .before .before .before .before .before)) at (c .before .before .before .before .before .before .before .put-batches .ensures))))
 
 same-length : tie.Need-same-length
 same-length c = c .before .before .before .before .put-moves .kept .1 .1 .1 .0 ∙ c .before .before .before .before .before .before .before .before .before .before .before .before .put-batches .kept .1 .1 .1 .1 .1 .0
@@ -56,7 +48,7 @@ same-length-2 c = c .before .before .before .before .put-moves .kept .1 .1 .1 .1
 
 returns : tie.Need-returns
 unfolding levelOffers
-returns c = written-append _ _ _ _ _ _ _ _ _ _ _ (rw (run (c .before .before .before .before .before .before .before .before .before .before .before .before .before .before .before .before)) at (c .before .before .before .before .before .before .before .before .before .before .before .before .put-batches .ensures)) (rw (held (c .before .before .before .before .before .before .before)) at (c .before .before .before .before .put-moves .ensures))
+returns c = written-append _ _ _ _ _ _ _ _ _ _ _ (rw (run (c .before .before .before .before .before .before .before .before .before .before .before .before .before .before .before .before)) at (c .before .before .before .before .before .before .before .before .before .before .before .before .put-batches .ensures)) (rw (c .before .before .before .before .before .before .before .free-moves .ensures .places) at (c .before .before .before .before .put-moves .ensures))
 
 pub put-ordered-spec : {M : Type 1} → statement M
 put-ordered-spec =
