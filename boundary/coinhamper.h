@@ -8,7 +8,7 @@
  * - a pointer is aligned to its type (8 for words and counts) and good for its length, which counts words, or bytes for uint8_t;
  * - what a call writes overlaps nothing else that is lent to it, and no other thread touches any of it meanwhile;
  * - the floating-point environment is the default one: round to nearest, no flush to zero, no denormals as zero;
- * - the stack has 200 KB left: generation from 1,023 tables of level 0 and one of level 1 takes the most.
+ * - the stack has 32 KiB left: generation takes the most.
  * NULL goes with a length of 0, and with nothing else. */
 #ifndef COINHAMPER_H
 #define COINHAMPER_H

@@ -9,7 +9,7 @@
 //! Trusted, and not proved:
 //! - that the archive is the one whose proof was checked, and that the declarations in `library` are its exports (boundary/run compares them with
 //!   the source);
-//! - that the floating-point environment is Rust's own (rounding to nearest, no flushing of small numbers) and that the stack has 200 KB left;
+//! - that the floating-point environment is Rust's own (rounding to nearest, no flushing of small numbers) and that the stack has 32 KiB left;
 //! - the rest of this file: layouts, the splitting of a plan that is too large for one call, the fallbacks. boundary/compare runs it beside the
 //!   original.
 //!

@@ -170,6 +170,13 @@ pub fn one_level(n: u64, seed: u64, how: u8, of: u64) -> Vec<Table> {
     out
 }
 
+/// All in L0 but one, which stands in level 1, so that the range of L0's keys is needed.
+pub fn l0_but_one(n: u64) -> Vec<Table> {
+    let mut out = one_level(n, 3, 0, 0);
+    out[0].level = 1;
+    out
+}
+
 pub fn words(tables: &[Table]) -> (Vec<u64>, Vec<u8>) {
     let (mut w, mut k) = (vec![], vec![]);
     for t in tables {

@@ -163,7 +163,7 @@ macro_rules! plan {
         }
     };
 }
-mod of {
+pub mod of {
     use super::{NEXT, Table, bits};
     plan!(module);
     plan!(original);

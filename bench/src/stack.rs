@@ -1,4 +1,5 @@
 //! How deep the stack goes: how much of a painted one a call wrote to.
+use crate::dropin::of;
 use crate::port::*;
 use crate::tables::{Case, Room};
 use crate::{choice, data, replay};
@@ -53,17 +54,23 @@ fn line(name: &str, port: impl FnMut(), rust: impl FnMut()) {
 pub fn depths() {
     println!("\n{:58} {:>10} {:>10}", "stack: bytes below the caller's frame", "port", "Rust");
     let mut room = Room::new();
-    let mut but_one = data::one_level(1024, 3, 0, 0);
-    but_one[0].level = 1;
     let cases = [
         ("four levels, 1,024 tables, 3 entries", Case::new(&data::four_levels(1024, 1024), &[1, 2, 3], 4)),
         ("1,024 tables in L0", Case::new(&data::one_level(1024, 3, 0, 0), &[], 4)),
-        ("1,023 tables in L0, one in level 1", Case::new(&but_one, &[], 4)),
+        ("1,023 tables in L0, one in level 1", Case::new(&data::l0_but_one(1024), &[], 4)),
         ("1,024 tables in level 1, one entry", Case::new(&data::one_level(1024, 3, 0, 1), &[1], 4)),
         ("no table", Case::new(&[], &[1], 4)),
     ];
     for (name, case) in &cases {
         line(&format!("generate_candidates, {name}"), || _ = case.generate(&mut room), || _ = black_box(case.generated()));
+    }
+    for (name, tables) in [("four levels, 1,024 tables", data::four_levels(1024, 1024)), ("1,023 in L0, one in level 1", data::l0_but_one(1024))] {
+        let (ours, theirs, over) = (of::module::infos(&tables), of::original::infos(&tables), [(1, 1), (2, 1), (3, 1)]);
+        line(
+            &format!("module generate_candidates, {name}"),
+            || _ = black_box(of::module::candidates(&ours, &over)),
+            || _ = black_box(of::original::candidates(&theirs, &over)),
+        );
     }
     let (all, words, numbers) = cases[0].1.compared();
     line(

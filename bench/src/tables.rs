@@ -151,6 +151,7 @@ fn generation(b: &mut Bench) {
     rows.push(("generate, no L0, levels 1 and 2", 1024, Case::new(&data::four_levels(1024, 7), &[1, 2], u64::MAX)));
     rows.push(("generate, all of level 1, one entry", 1024, Case::new(&data::one_level(1024, 3, 0, 1), &[1], 4)));
     rows.push(("generate, all of L0", 1024, Case::new(&data::one_level(1024, 3, 0, 0), &[], 4)));
+    rows.push(("generate, all but one of L0", 1024, Case::new(&data::l0_but_one(1024), &[], 4)));
     rows.push(("generate, levels 1 and 2, 16 entries", 1024, Case::new(&data::two_levels(512), &[1, 2].repeat(8), u64::MAX)));
     let mut room = Room::new();
     for (name, n, case) in &rows {

@@ -17,12 +17,13 @@ static uint8_t keys[2 * TABLES], text[1 << 20], out[1 << 21];
 static uint64_t head[COINHAMPER_HEAD_WORDS] = {4095, 4096, 9}, log_words[COINHAMPER_LOG_WORDS];
 static size_t text_len, candidate_count, number_count, written;
 
-/* 1,024 tables, each on a key of its own, so that all are free to move; levels 0 to 15 are over budget. */
+/* 1,024 tables, each on a key of its own, so that all are free to move, the oldest on the first, so that there are batches of eight; levels 0 to 15 are over
+ * budget. oracle/src/offered.rs has the same plans as frozen rows. */
 static void lay_out(uint64_t levels, uint64_t on_level_1) {
     for (uint64_t i = 0; i < TABLES; i++) {
         keys[2 * i] = (uint8_t)(i >> 8), keys[2 * i + 1] = (uint8_t)i;
-        const uint64_t level = i < TABLES - on_level_1 ? i % levels : 1, key = 2 * (TABLES - 1 - i);
-        memcpy(tables + 7 * i, (uint64_t[]){i, level, i, key, 2, key, 2}, 7 * sizeof *tables);
+        const uint64_t level = i < TABLES - on_level_1 ? i % levels : 1;
+        memcpy(tables + 7 * i, (uint64_t[]){i, level, TABLES - i, 2 * i, 2, 2 * i, 2}, 7 * sizeof *tables);
     }
     for (uint64_t i = 0; i < 16; i++) memcpy(over + 2 * i, (uint64_t[]){i, 1}, 2 * sizeof *over);
 }

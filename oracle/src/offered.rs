@@ -1,4 +1,5 @@
-//! Where a list of offers is cut, and how far a range reaches: more tables free to move than a list of moves takes, and one table of a batch that reaches further.
+//! Where a list of offers is cut, and how far a range reaches: more tables free to move than a list of moves takes; one table of L0 that reaches further than
+//! the others; the plans that take the most stack.
 
 use crate::ask;
 use crate::limits::room;
@@ -43,8 +44,8 @@ fn ninth_at(n: u64, place: usize, rising: bool) -> Vec<u64> {
     out
 }
 
-/// 8, 9, 10 and 1,024 tables that are free to move: the ninth largest first and last in key order, one size for all, one size from the eighth largest on;
-/// numbers rising, falling and mixed. Then nine that are free among twelve.
+/// 8, 9, 10 and 1,024 tables that are free to move: the ninth largest first and last in key order; one size for all, or for all but up to seven, so that
+/// numbers decide where the list is cut; numbers rising, falling and mixed. Then nine that are free among twelve.
 fn moves() -> Vec<Question> {
     let mut out = vec![];
     for n in [8, 9, 10, 1024] {
@@ -77,7 +78,8 @@ fn moves() -> Vec<Question> {
     out
 }
 
-/// L0 of 1 to 9 tables and of 33, all on one key but two, which may be the same: one begins lower and one ends higher. Level 1 has a table below, on and above that key.
+/// L0 of 1 to 9 tables and of 33, all on one key but two, which may be the same: one begins lower and one ends higher. Level 1 has tables on that key, and
+/// next to it and further away on both sides.
 fn ranges() -> Vec<Question> {
     let mut out = vec![];
     for n in [1, 2, 3, 4, 5, 8, 9, 33] {
@@ -94,6 +96,13 @@ fn ranges() -> Vec<Question> {
     out
 }
 
+/// The plans that take the most stack: 1,024 tables on keys of their own, all in L0, all but one, all in level 1, in four levels and in 17, with 16 entries.
+fn deepest() -> Vec<Question> {
+    let levels: [fn(u64) -> u64; 5] = [|_| 0, |i| i / 1023, |_| 1, |i| i % 4, |i| i % 17];
+    let over: Vec<u64> = (0..16).flat_map(|level| [level, 1]).collect();
+    levels.map(|level| generation((0..1024).flat_map(|i| at_key(i, level(i), 1024 - i, i)).collect(), keys(1024), 1, &over)).to_vec()
+}
+
 pub fn all() -> Vec<Question> {
-    [moves(), ranges()].concat()
+    [moves(), ranges(), deepest()].concat()
 }
