@@ -2,7 +2,6 @@
  * signal. The thread's own need above that frame (its descriptor, thread-local storage, the frames that start it) is measured first and added. */
 #include "test.h"
 #include <pthread.h>
-#include <signal.h>
 #include <sys/mman.h>
 #include <sys/wait.h>
 #include <unistd.h>
