@@ -7,7 +7,7 @@ use denote.Ref.{now}
 use borrow.Author.Needs.{needs}
 use Rattle.records.specs.Tables.{tablesOf}
 use Rattle.number_order.specs.Numbers.{repeats}
-use Rattle.number_order.specs.Fits.{fits-few, told-fits}
+use Rattle.number_order.specs.Fits.{told-fits, ordered-front}
 use Rattle.estimate_faults.specs.Faults.{estimateInput}
 use Rattle.estimate_faults.specs.Steps.{words-stop, words-few, repeats-stop, values-give}
 use Rattle.estimates.proofs.estimate_fault.Statement.{statement}
@@ -30,8 +30,9 @@ returns-2 c = (repeats-stop _ _ (c .before .before .before .before .before .befo
 
 returns-3 : tie.Need-returns-3
 returns-3 c =
+    let a = c .before .before .before .before .before .before .before .before .before .before .before .before .before .args in
     let k = few (c .before .before .before .before) in
-    (values-give _ _ (c .before .before .before .before .before .before .before .words-fault .ensures) (c .before .before .before .before .before .before .if1 .left) (told (c .before .before .before .before)) (c .before .if2 .left) (c .values-fault .ensures), λ z. c .before .before .before .before .order-tables .ensures .1 .0 (fits-few (tablesOf (now (c .before .before .before .before .before .before .before .before .before .before .before .before .before .args .tables))) (length (now (c .before .before .before .before .before .before .before .before .before .before .before .before .before .args .order))) k (omega (arith, k, c .before .before .before .before .before .before .before .before .before .before .before .before .before .pre))))
+    (values-give _ _ (c .before .before .before .before .before .before .before .words-fault .ensures) (c .before .before .before .before .before .before .if1 .left) (told (c .before .before .before .before)) (c .before .if2 .left) (c .values-fault .ensures), λ z. ordered-front (tablesOf (now (a .tables))) (now (a .order)) k (omega (arith, k, c .before .before .before .before .before .before .before .before .before .before .before .before .before .pre)) (c .before .before .before .before .order-tables .ensures .1))
 
 pub estimate-fault-spec : {M : Type 1} → statement M
 estimate-fault-spec =
