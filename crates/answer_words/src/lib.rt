@@ -1,4 +1,6 @@
 // Answers as words: what is read of a governor, its figures, a pause, a choice; and the front of a lent buffer that gets them. A refused answer writes nothing.
+#![tactic(auto)]
+
 ghost use Rattle.std.specs.Prelude.{◌≡◌, cond, length, eqb};
 ghost use Rattle.refusals.specs.Refusals.{none};
 ghost use Rattle.refusals.specs.Written.{written_out};

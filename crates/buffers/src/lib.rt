@@ -1,4 +1,6 @@
 // Words put into a lent buffer from a place on. Nothing is refused: a word that would stand past the buffer's end is lost.
+#![tactic(auto)]
+
 ghost use Rattle.std.specs.Prelude.{◌≡◌, set};
 ghost use Rattle.std.proofs.lemmas.List.Edits.{sets};
 

@@ -1,4 +1,6 @@
 // What makes candidates, estimates and pressure vectors bad, one fault to a function: too many (4), broken records (5), a vector (7) or an estimate (8) out of range. Nothing here is refused: each function answers for any words.
+#![tactic(auto)]
+
 ghost use Rattle.std.specs.Prelude.{◌≡◌, ◌&&◌};
 ghost use Rattle.lists.specs.Any.{any_of};
 ghost use Rattle.candidate_records.specs.Candidates.{candidates_of, estimates_of};

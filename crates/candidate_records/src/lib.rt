@@ -1,4 +1,6 @@
 // Candidates and estimates in lent words: six to a candidate, nine to an estimate, floats as bits. A place is a record's number in its list, from 0. Nothing here is refused: a place past the last reads as a record of zeros.
+#![tactic(auto)]
+
 ghost use Rattle.std.specs.Prelude.{◌≡◌, length};
 ghost use Rattle.candidate_records.specs.Candidates.{candidates_of, candidate_at, estimates_of, estimate_at};
 

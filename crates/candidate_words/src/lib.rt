@@ -1,4 +1,6 @@
 // The candidates for the next merge as words, written to two lent buffers: L0's, then each over-budget level's in order. Nothing is refused: what is past the limits offers nothing, and a word that would stand past a buffer's end is lost, so that a run over empty slices counts.
+#![tactic(auto)]
+
 ghost use Rattle.l0_words.specs.Written.{Written, start};
 ghost use Rattle.candidate_words.specs.Candidates.{lent_offers};
 

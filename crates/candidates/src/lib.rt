@@ -1,4 +1,6 @@
 // The candidates for the next merge, written to two lent buffers.
+#![tactic(auto)]
+
 ghost use Rattle.std.specs.Prelude.{◌≡◌, ◌||◌, ltb};
 ghost use Rattle.refusals.specs.Refusals.{first_fault};
 ghost use Rattle.candidates.specs.Generate.{generate_input, words_checks, input_fault, Answered};

@@ -1,4 +1,6 @@
 // The choice with focus: any L0 first, then the focus level while its streak is short, then the best score overall.
+#![tactic(auto)]
+
 ghost use Rattle.std.specs.Prelude.{◌≡◌, ◌<◌};
 ghost use Rattle.candidate_records.specs.Candidates.{candidates_of, estimates_of};
 ghost use Rattle.search.specs.Choices.{choices_from, last_best, lower_score, winner_of};

@@ -1,4 +1,6 @@
 // The choice and the decision on lent words: the six words of a choice, with numbers that stand for no focus or no choice refused.
+#![tactic(auto)]
+
 ghost use Rattle.std.specs.Prelude.{◌≡◌, length};
 ghost use Rattle.refusals.specs.Written.{written_out};
 ghost use Rattle.decisions.specs.Decision.{decision_words};

@@ -1,4 +1,6 @@
 // The calls for C and Rust, as numbers and lent slices: libcoinhamper.a. A call answers its refusal, 0 for none, unless it says that it answers a number; where it is refused, nothing that was lent is changed.
+#![tactic(auto)]
+
 ghost use Rattle.std.specs.Prelude.{◌≡◌};
 ghost use Rattle.state_words.specs.StateWords.{version};
 

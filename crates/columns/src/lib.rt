@@ -1,4 +1,6 @@
 // Which columns of the log's table are floats. Nothing is refused: a column past the last is as the last.
+#![tactic(auto)]
+
 ghost use Rattle.std.specs.Prelude.{◌≡◌};
 ghost use Rattle.columns.specs.Columns.{form_of, is_float};
 

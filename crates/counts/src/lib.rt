@@ -1,4 +1,6 @@
 // Counts that stop at the ends of a u64 or at each other, and counts too large for a float. Nothing here is refused.
+#![tactic(auto)]
+
 ghost use Rattle.std.specs.Prelude.{◌≡◌, ◌-◌, max, min};
 ghost use Rattle.counts.specs.Counts.{saturating_add, large, any_large};
 

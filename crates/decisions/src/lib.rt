@@ -1,4 +1,6 @@
 // A scheduling decision by value, its fourteen words, and the words read back. Nothing is refused.
+#![tactic(auto)]
+
 ghost use Rattle.std.specs.Prelude.{◌≡◌, ◌+◌, ◌-◌, ◌^◌, ◌≤◌, length, get_or};
 ghost use Rattle.decisions.specs.Decision.{decision_width, decision_words, source_from, tier_from, chosen_good, is_decision, kind_from, chosen_from, floats_at, decision_in, read_of};
 

@@ -1,4 +1,6 @@
 // The observation of the running engine: `observe` over a window of its cumulative read counters.
+#![tactic(auto)]
+
 ghost use Rattle.std.specs.Prelude.{◌≡◌, ◌-◌, ◌≤◌, ◌^◌};
 ghost use Rattle.kinds.specs.Tuning.{source};
 ghost use Rattle.windows.specs.Windows.{probed_sum};

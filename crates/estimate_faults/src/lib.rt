@@ -1,4 +1,6 @@
 // What `estimate_candidates` refuses beside 11, as the number of the refusal; 0 where nothing is wrong. Nothing is refused here: the call gives the number.
+#![tactic(auto)]
+
 ghost use Rattle.std.specs.Prelude.{◌≡◌};
 ghost use Rattle.refusals.specs.Refusals.{first_fault};
 ghost use Rattle.estimate_faults.specs.Faults.{too_many_inputs, broken_inputs, words_checks, values_checks};

@@ -1,4 +1,6 @@
 // A word in its column, as eight bytes. Nothing is refused: a column past the last is as those of floats, and a byte that would stand past the buffer's end is lost.
+#![tactic(auto)]
+
 ghost use Rattle.std.specs.Prelude.{◌≡◌};
 ghost use Rattle.std.proofs.lemmas.List.Edits.{sets};
 ghost use Rattle.columns.specs.Columns.{form_of};

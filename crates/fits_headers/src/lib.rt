@@ -1,4 +1,6 @@
 // Both headers of the log's table, by their cards. Nothing is refused: a byte that would stand past the buffer's end is lost.
+#![tactic(auto)]
+
 ghost use Rattle.std.specs.Prelude.{◌≡◌, ◌<◌};
 ghost use Rattle.std.proofs.lemmas.List.Edits.{sets};
 ghost use Rattle.fits_headers.specs.Headers.{headers};

@@ -1,4 +1,6 @@
 // One observation of the engine's pressure.
+#![tactic(auto)]
+
 ghost use Rattle.std.specs.Prelude.{◌≡◌, ◌-◌, ◌<◌, ◌^◌, true, false, ◌&&◌};
 ghost use Rattle.kinds.specs.Tuning.{source};
 ghost use Rattle.state.specs.State.{full};

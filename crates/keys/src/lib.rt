@@ -1,4 +1,6 @@
 // Keys and their order, byte by byte, a prefix being smaller; and a part of the key bytes. Nothing is refused.
+#![tactic(auto)]
+
 ghost use Rattle.std.specs.Prelude.{◌≡◌};
 ghost use Rattle.keys.specs.Keys.{order_of};
 ghost use Rattle.keys.specs.Parts.{IsPart, lesser_part, greater_part};

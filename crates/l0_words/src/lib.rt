@@ -1,4 +1,6 @@
 // L0's candidate, written to the front of two lent buffers: all of L0 and what it overlaps in level 1, if there is any and it reaches the trigger. Nothing is refused: of too many tables nothing is written, and a word that would stand past a buffer's end is lost.
+#![tactic(auto)]
+
 ghost use Rattle.std.specs.Prelude.{◌≡◌, ◌&&◌, leb, ltb};
 ghost use Rattle.l0_words.specs.L0.{lent_l0};
 ghost use Rattle.l0_words.specs.Written.{Written, start};

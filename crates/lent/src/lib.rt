@@ -1,4 +1,6 @@
 // The counts of a move and of an outcome behind a lent governor, which a refusal leaves as it was: both calls answer the refusal.
+#![tactic(auto)]
+
 ghost use Rattle.std.specs.Prelude.{◌≡◌};
 ghost use Rattle.report.specs.Counters.{trivial_move_of, outcome_of};
 

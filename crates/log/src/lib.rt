@@ -1,4 +1,6 @@
 // The log: first, count and sequence by value beside the lent words, which are 4,096 places of a decision each.
+#![tactic(auto)]
+
 ghost use Rattle.std.specs.Prelude.{◌≡◌};
 ghost use Rattle.log.specs.Log.{empty_log, log_bad, kept_place};
 

@@ -1,4 +1,6 @@
 // One line of the log's text: its fourteen fields, as the words of a decision. Nothing is refused; words are not tested for being a decision.
+#![tactic(auto)]
+
 ghost use Rattle.std.specs.Prelude.{◌≡◌, false};
 ghost use Rattle.replay_text.specs.Lines.{fields_of};
 ghost use Rattle.columns.specs.Columns.{form_of};

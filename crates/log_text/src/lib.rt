@@ -1,4 +1,6 @@
 // The log's text: the log that it is, and a report of the lines that are refused.
+#![tactic(auto)]
+
 ghost use Rattle.std.specs.Prelude.{◌≡◌, cond, not, [], ◌+◌, ◌-◌, ◌*◌, ◌≤◌, length, take, get_or, replicate};
 ghost use Rattle.lists.specs.Writes.{Filled};
 ghost use Rattle.refusals.specs.Refusals.{bad_record};

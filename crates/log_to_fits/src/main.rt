@@ -1,4 +1,6 @@
 // Reads the log's text from standard input to its end, and writes its table to standard output; of a text that is refused it writes the refused lines to standard error, and nothing else.
+#![tactic(auto)]
+
 use libc::{STDERR_FILENO, STDIN_FILENO, STDOUT_FILENO};
 
 fn report(text: &[u8], out: &mut [u8]) {

@@ -1,4 +1,6 @@
 // A log beside its head, three lent words: first, count and sequence. A decision added, and a text read, on such words.
+#![tactic(auto)]
+
 ghost use Rattle.std.specs.Prelude.{◌≡◌, length};
 ghost use Rattle.log_words.specs.LogWords.{head_of, three_words, record_refusal, record_head, record_words, read_refusal, read_head, read_words};
 

@@ -1,4 +1,6 @@
 // What a number is looked up as. The laws of the search by halves are in specs/; the search itself is the estimates' own.
+#![tactic(auto)]
+
 use records::tables::Table;
 
 #[derive(Drop)]

@@ -1,4 +1,6 @@
 // The mode after one observation. Nothing here is refused.
+#![tactic(auto)]
+
 ghost use Rattle.std.specs.Prelude.{◌≡◌, cond, ◌≤◌, ◌<◌, ◌-◌, ◌^◌, leb};
 ghost use Rattle.kinds.specs.Tuning.{source};
 ghost use Rattle.modes.specs.Mode.{next_mode_of, next, switched, stays};

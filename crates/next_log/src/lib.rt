@@ -1,4 +1,6 @@
 // The log after one more decision: its place, its sequence, and the log's own numbers. Nothing is refused, whatever the log.
+#![tactic(auto)]
+
 ghost use Rattle.std.specs.Prelude.{◌≡◌};
 ghost use Rattle.next_log.specs.Next.{next_place, next_log, next_sequence};
 

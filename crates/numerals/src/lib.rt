@@ -1,4 +1,6 @@
 // Numbers in text: decimal, and bits as 16 hex digits. Nothing is refused: a text that is no number is none.
+#![tactic(auto)]
+
 ghost use Rattle.std.specs.Prelude.{◌≡◌, ◌&&◌, ◌<◌, leb};
 ghost use Rattle.numerals.specs.Numbers.{decimal_of, bits_of, digit_value, number_from};
 

@@ -1,4 +1,6 @@
 // What an ordered level offers: batches, and where they start. Every function takes any places and refuses nothing.
+#![tactic(auto)]
+
 pub mod batches;
 
 // A batch has at most so many tables, and so has a move.

@@ -1,4 +1,6 @@
 // Whether a table's keys meet a range of keys. Nothing is refused: past the last place stands a table of zeros.
+#![tactic(auto)]
+
 ghost use Rattle.std.specs.Prelude.{◌≡◌};
 ghost use Rattle.keys.specs.Keys.{key_le};
 ghost use Rattle.records.specs.Tables.{tables_of, table_at};

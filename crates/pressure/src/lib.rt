@@ -1,4 +1,6 @@
 // One observation's pressures, and the signals after it. Nothing here is refused.
+#![tactic(auto)]
+
 ghost use Rattle.std.specs.Prelude.{◌≡◌};
 ghost use Rattle.kinds.specs.Tuning.{source};
 ghost use Rattle.pressure.specs.Sample.{fraction_of};

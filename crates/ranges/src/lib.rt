@@ -1,4 +1,6 @@
 // The range of some tables: the smallest of their first keys and the largest of their last keys, each as that part of the key bytes. Nothing is refused: of no table it is the empty part.
+#![tactic(auto)]
+
 ghost use Rattle.std.specs.Prelude.{◌≡◌};
 ghost use Rattle.records.specs.Tables.{tables_of};
 ghost use Rattle.ranges.specs.Ranges.{low_of, high_of};

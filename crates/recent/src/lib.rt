@@ -1,4 +1,6 @@
 // Reading the log: the words of the kept decisions, oldest first.
+#![tactic(auto)]
+
 ghost use Rattle.std.specs.Prelude.{◌≡◌, length};
 ghost use Rattle.recent.specs.Recent.{recent_fault, recent_of, recent_out};
 

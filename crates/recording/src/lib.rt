@@ -1,4 +1,6 @@
 // Adding a decision to the log: after the newest, or over the oldest when all places are kept.
+#![tactic(auto)]
+
 ghost use Rattle.std.specs.Prelude.{◌≡◌, length};
 ghost use Rattle.recording.specs.Recording.{numbered, record_fault, recorded_of, recorded_words};
 

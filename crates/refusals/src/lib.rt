@@ -1,4 +1,5 @@
 // The refusal numbers, named once. Of several faults a call gives the first in this order: 1, 10, 4, 5, 11, 6, 7, 8, 2, 3, 9. 12 to 15 are free.
+#![tactic(auto)]
 
 pub const NONE: u64 = 0;
 

@@ -1,4 +1,6 @@
 // What share of a level's excess some bytes are. Nothing here is refused: a level's bytes stop at the largest u64.
+#![tactic(auto)]
+
 ghost use Rattle.std.specs.Prelude.{◌≡◌};
 ghost use Rattle.records.specs.Tables.{tables_of, entries_of};
 ghost use Rattle.reliefs.specs.Reliefs.{level_bytes_of, share_of, relief_by};

@@ -1,4 +1,6 @@
 // Reads standard input to its end and writes what the library makes of it.
+#![tactic(auto)]
+
 use libc::{STDIN_FILENO, STDOUT_FILENO};
 
 fn answer(text: &[u8], out: &mut [u8]) {

@@ -1,4 +1,6 @@
 // One line: its six fields, as an observation or none. Nothing is refused.
+#![tactic(auto)]
+
 ghost use Rattle.std.specs.Prelude.{◌≡◌, ◌-◌, ◌≤◌, length, take, drop};
 ghost use Rattle.replay_text.specs.Lines.{fields_of};
 ghost use Rattle.replay_text.specs.Lines.Fields.{Commas};

@@ -1,3 +1,5 @@
 // The lines of `replay`, and the whole run over lent slices.
+#![tactic(auto)]
+
 pub mod lines;
 pub mod run;

@@ -1,2 +1,4 @@
 // The text of `replay`: its lines.
+#![tactic(auto)]
+
 pub mod reader;

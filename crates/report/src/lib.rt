@@ -1,4 +1,6 @@
 // The reporting counters: batches chosen, moves, and how far outcomes were from their predictions.
+#![tactic(auto)]
+
 ghost use Rattle.std.specs.Prelude.{◌≡◌};
 ghost use Rattle.report.specs.Counters.{error_of, chosen_of, trivial_move_of, outcome_fault, outcome_of};
 

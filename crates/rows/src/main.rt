@@ -1,4 +1,6 @@
 // Answers questions: reads standard input, and writes one line for each line of it (docs/ROWS.md).
+#![tactic(auto)]
+
 use rows_answers::OUT;
 use rows_state::arithmetic;
 use rows_tables::placed;

@@ -1,4 +1,6 @@
 // What is written: bytes into a lent buffer, which goes to standard output when it is full, but for its last byte. A space stands behind each number and list, until the next byte takes its place or follows it.
+#![tactic(auto)]
+
 use rows_words::words::WORDS;
 use rows_words::{shape, words};
 

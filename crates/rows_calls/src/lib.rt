@@ -1,4 +1,6 @@
 // The calls: their names, what they are asked and what they tell.
+#![tactic(auto)]
+
 mod letters;
 mod names;
 

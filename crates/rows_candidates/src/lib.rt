@@ -1,4 +1,6 @@
 // The call of candidates.
+#![tactic(auto)]
+
 use candidates::{Generated, generate_candidates};
 use rows_words::words;
 use rows_words::words::WORDS;

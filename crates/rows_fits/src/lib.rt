@@ -1,4 +1,6 @@
 // The calls of fits and log_text.
+#![tactic(auto)]
+
 use log::DecisionLog;
 use log_text::TextRead;
 use refusals::Written;

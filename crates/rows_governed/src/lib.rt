@@ -1,4 +1,6 @@
 // The calls of kinds, state, pressure, governor, engine, report and snapshot.
+#![tactic(auto)]
+
 mod lending;
 
 use arith::floats;

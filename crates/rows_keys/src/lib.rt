@@ -1,4 +1,6 @@
 // The calls of keys, with `first_key`, `last_key`, `broken_keys` and `overlaps_at`. The byte lists of a question stand one behind the other.
+#![tactic(auto)]
+
 ghost use Rattle.std.specs.Prelude.{◌≤◌};
 
 use keys::Order;

@@ -1,4 +1,6 @@
 // The calls of decisions and of their log, whose words come from a seed.
+#![tactic(auto)]
+
 use decisions::DecisionRead;
 use log::DecisionLog;
 use recent::Recent;

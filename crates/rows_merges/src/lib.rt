@@ -1,4 +1,6 @@
 // The calls of estimates, scores, choice and the decision that a choice leads to.
+#![tactic(auto)]
+
 ghost use Rattle.std.specs.Prelude.{◌≤◌};
 
 use arith::floats;

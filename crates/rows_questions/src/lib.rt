@@ -1,4 +1,6 @@
 // A question's text: its name, and its arguments as words, a list as its count and then its elements.
+#![tactic(auto)]
+
 use rows_words::words::WORDS;
 use rows_words::{shape, words};
 

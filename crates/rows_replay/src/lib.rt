@@ -1,4 +1,6 @@
 // The calls of the replay's text.
+#![tactic(auto)]
+
 use numerals::Number;
 use replay_lines::run;
 use replay_lines::run::Replayed;

@@ -1,4 +1,6 @@
 // Buffers too long for a question: what they hold before a call comes from a seed, and after it they are told by a digest and by the words that differ.
+#![tactic(auto)]
+
 ghost use Rattle.std.specs.Prelude.{◌≤◌};
 
 use log::DecisionLog;

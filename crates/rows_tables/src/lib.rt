@@ -1,4 +1,6 @@
 // The calls of records, faults and levels.
+#![tactic(auto)]
+
 pub mod placed;
 
 use records::tables;

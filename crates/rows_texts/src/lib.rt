@@ -1,4 +1,6 @@
 // Texts of a question, as bytes.
+#![tactic(auto)]
+
 use rows_words::words;
 use rows_words::words::{BYTES, WORDS};
 

@@ -1,4 +1,6 @@
 // The score of an estimate under a pressure vector. Nothing is refused.
+#![tactic(auto)]
+
 ghost use Rattle.std.specs.Prelude.{◌≡◌};
 ghost use Rattle.scores.specs.Score.{score_of};
 

@@ -1,4 +1,6 @@
 // The search in a list of candidates: every score, the first L0, and the last of the best by score or by length. Nothing is refused.
+#![tactic(auto)]
+
 ghost use Rattle.std.specs.Prelude.{◌≡◌, List, [], ℕ, Float, get_or};
 ghost use Rattle.std.specs.Float.{nan};
 ghost use Rattle.std.specs.Float.Ieee.{lt};

@@ -1,4 +1,6 @@
 // The governor's figures at a clock reading.
+#![tactic(auto)]
+
 ghost use Rattle.std.specs.Prelude.{◌≡◌};
 ghost use Rattle.snapshot.specs.Snapshot.{mean_of, stats_of, snapshot_fault, snapshot_of};
 

@@ -1,4 +1,6 @@
 // Which states are sound, and whether two modes differ. Nothing here is refused.
+#![tactic(auto)]
+
 ghost use Rattle.std.specs.Prelude.{◌≡◌};
 ghost use Rattle.kinds.specs.Tuning.{source};
 ghost use Rattle.sound.specs.Sound.{own, sound_of, differ};

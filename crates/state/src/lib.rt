@@ -1,4 +1,6 @@
 // The governor's state by value: a fresh one, what is read of it, and another focus for it. Nothing here is refused.
+#![tactic(auto)]
+
 ghost use Rattle.std.specs.Prelude.{◌≡◌};
 ghost use Rattle.state.specs.State.{fresh_of, focused_of};
 

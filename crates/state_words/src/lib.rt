@@ -1,4 +1,6 @@
 // A governor's state in lent words: a tag with the version of the layout, then the state's fields in order, floats as their bits. Words that are no such state are refused by a number of their own.
+#![tactic(auto)]
+
 ghost use Rattle.std.specs.Prelude.{◌≡◌, ◌-◌, ◌^◌, ◌≤◌, length};
 ghost use Rattle.state_words.specs.StateWords.{mode_from, focus_good, focus_from, streaks_good, is_state, vector_in, signals_in, streaks_in, times_in, counters_in, Good, state_from, state_in, focus_flag, focus_level, state_words, gated, refusal_of, words_after};
 

@@ -1,4 +1,6 @@
 // Text written to a lent buffer from a place on; each writer of numbers answers how many bytes there are. Nothing is refused: a byte that would stand past the buffer's end is lost, so that a run over an empty slice counts.
+#![tactic(auto)]
+
 ghost use Rattle.std.specs.Prelude.{◌≡◌, [], ◌∷◌, ◌++◌, ◌+◌, set, take};
 ghost use Rattle.std.proofs.lemmas.List.Edits.{sets};
 ghost use Rattle.lists.specs.Writes.{Filled};

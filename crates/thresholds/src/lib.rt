@@ -1,4 +1,6 @@
 // What a sample is by its thresholds: hot, recovered, high or calm. Nothing is refused: a NaN passes no test.
+#![tactic(auto)]
+
 ghost use Rattle.std.specs.Prelude.{◌≡◌};
 ghost use Rattle.kinds.specs.Tuning.{source};
 ghost use Rattle.thresholds.specs.Thresholds.{hot, recovered, high, calm};

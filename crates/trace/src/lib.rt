@@ -1,4 +1,6 @@
 // From a choice to the decision that is logged. Nothing is refused: a place past the lists reads as records of zeros, which choose nothing.
+#![tactic(auto)]
+
 ghost use Rattle.std.specs.Prelude.{◌≡◌};
 ghost use Rattle.trace.specs.Trace.{decision_of, decision_for};
 

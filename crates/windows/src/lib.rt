@@ -1,4 +1,6 @@
 // The window over the engine's cumulative read counters since the last observation, and what refuses it. Nothing is refused by a call here: `window_fault` says which refusal its caller is to answer.
+#![tactic(auto)]
+
 ghost use Rattle.std.specs.Prelude.{◌≡◌, ◌-◌, ◌^◌, ltb};
 ghost use Rattle.kinds.specs.Tuning.{source};
 ghost use Rattle.counts.specs.Counts.{large};

@@ -1,4 +1,6 @@
 // The numbers of a candidate's tables, written to a lent buffer from a place on; each writer answers how many there are. Nothing is refused: a word that would stand past the buffer's end is lost, so that a run over an empty slice counts.
+#![tactic(auto)]
+
 ghost use Rattle.std.specs.Prelude.{◌≡◌, ◌+◌, ◌<◌, ◌^◌, length};
 ghost use Rattle.records.specs.Tables.{tables_of};
 ghost use Rattle.overlaps.specs.Overlaps.{overlapping_of};
