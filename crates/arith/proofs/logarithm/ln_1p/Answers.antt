@@ -1,5 +1,5 @@
 -- `arith::logarithm::ln_1p` meets its contract.
-use Rattle.std.proofs.Common.{◌≡◌, ℕ, ◌+◌, ◌^◌, ◌<◌, ◌≤◌, ◌∙◌, le_of_lt, mul-one, arith, lit<, lit≤, le→leb}
+use Rattle.std.proofs.Common.{◌≡◌, ℕ, ◌+◌, ◌^◌, ◌<◌, ◌∙◌, le_of_lt, mul-one, arith, lit<, lit≤, le→leb}
 use Rattle.std.specs.Float.{binary64}
 use Rattle.std.specs.Float.Ieee.{in_float}
 use Rattle.arith.specs.Whole.{float_of, rounded_of}

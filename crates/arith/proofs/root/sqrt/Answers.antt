@@ -1,6 +1,6 @@
 -- `arith::root::sqrt` meets its contract.
-use Rattle.std.proofs.Common.{◌≡◌, ℕ, ◌-◌, ◌/◌, ◌^◌, ◌<◌, ◌≢◌, sym, ap, ◌∙◌, arith, le→leb}
-use Rattle.std.specs.Float.Ieee.{Float, of_bits, in_float, size, to_unsigned}
+use Rattle.std.proofs.Common.{◌≡◌, ℕ, ◌-◌, ◌/◌, sym, ap, ◌∙◌, arith, le→leb}
+use Rattle.std.specs.Float.Ieee.{Float, of_bits, in_float, to_unsigned}
 use Rattle.arith.specs.Whole.{float_of}
 use Rattle.arith.specs.Whole.Truncation.{back, back-top}
 use Rattle.arith.specs.Root.{root_of}
