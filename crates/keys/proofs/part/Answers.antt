@@ -6,7 +6,7 @@ use Rattle.keys.proofs.part.Goals as goal
 pub returns-then-n-from : goal.returns-then-n-from
 returns-then-n-from c = let a = c.args in
     let past : length a.s.now ≤ a.start = omega arith in
-    ((refl, omega arith), simp (drop_of_length-le a.s.now past, drop-length, take-nil) (sym (take-nil a.len)))
+    ((refl, omega arith), simp (drop_of_length-le a.s.now past, drop-length, take-nil))
 
 pub returns-then-n-from-2 : goal.returns-then-n-from-2
 returns-then-n-from-2 c = let a = c.args in let d = drop a.start a.s.now in
