@@ -1,5 +1,5 @@
 -- `replay_text::reader::find` meets its contract.
-use Rattle.std.proofs.Common.{◌-◌, arith}
+use Rattle.std.proofs.Common.{arith}
 use Rattle.replay_text.specs.Lines.Steps.{before_hit, before_miss, before-end}
 use Rattle.replay_text.proofs.reader.find.Goals as goal
 

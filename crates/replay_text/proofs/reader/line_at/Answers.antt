@@ -10,8 +10,8 @@ returns-then-text-at c = simp (le-leb _ _ c.if-text-at.true)
 
 pub returns-then-text-stop : goal.returns-then-text-stop
 unfolding line_at_of
-returns-then-text-stop c = simp (lt-leb _ _ c.if-text-at.false, ← c.find-stop.ensures.0, le-leb _ _ c.if-text-stop.true)
+returns-then-text-stop c = simp (lt-leb _ _ c.if-text-at.false, ← c.find-stop.ensures.value, le-leb _ _ c.if-text-stop.true)
 
 pub returns : goal.returns
 unfolding line_at_of
-returns c = simp (lt-leb _ _ c.if-text-at.false, ← c.find-stop.ensures.0, lt-leb _ _ c.if-text-stop.false, c.end_Before.ensures)
+returns c = simp (lt-leb _ _ c.if-text-at.false, ← c.find-stop.ensures.value, lt-leb _ _ c.if-text-stop.false, c.end_before.ensures)
