@@ -1,5 +1,5 @@
 -- `numerals::digits` meets its contract.
-use Rattle.std.proofs.Common.{refl, sym, ◌∙◌, div-lt_iff_lt-mul, le-div_iff_mul-le, ◌-◌, arith}
+use Rattle.std.proofs.Common.{refl, sym, ◌∙◌, div-lt_iff_lt-mul, le-div_iff_mul-le, arith}
 use Rattle.numerals.specs.Numbers.Reading.{number-end, number_more, number_stray, number-over}
 use Rattle.numerals.proofs.digits.Goals as goal
 
