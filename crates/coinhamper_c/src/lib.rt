@@ -4,10 +4,10 @@
 ghost use Rattle.std.specs.Prelude.{◌≡◌};
 ghost use Rattle.state_words.specs.StateWords.{version};
 
-mod arithmetic;
-mod governed;
-mod logged;
-mod merges;
+pub mod arithmetic;
+pub mod governed;
+pub mod logged;
+pub mod merges;
 
 // Answers a number.
 #[unsafe(no_mangle)]
