@@ -1,6 +1,6 @@
 -- Which columns are floats, by their place.
 use Rattle.std.specs.Prelude.{◌≡◌, refl, ℕ, zero, suc, Bool, true, false, cond, leb, eqb}
-use Rattle.std.proofs.Common.{sym, arith, ne_eqb, le-leb}
+use Rattle.std.proofs.Common.{arith, ne_eqb, le-leb}
 use Rattle.std.proofs.lemmas.Bool.{lt-leb}
 use Rattle.columns.specs.Columns.{form_of, is_float}
 

@@ -9,7 +9,7 @@ Bytes = Bor (List ℕ)
 
 -- r is lent from the same bytes, from start on, or from their end if they end before it
 abbrev pub StartsAt : Bytes → ℕ → Bytes → Type 0
-StartsAt s start r = (r.ptr.0 ≡ s.ref_ptr.0) × (r.ptr.1 ≡ s.ref_ptr.1 + min start (length s.now))
+StartsAt s start r = (r.ref_ptr.0 ≡ s.ref_ptr.0) × (r.ref_ptr.1 ≡ s.ref_ptr.1 + min start (length s.now))
 
 -- r is the part of s from start on, of len bytes, cut off at the end of s
 abbrev pub IsPart : Bytes → ℕ → ℕ → Bytes → Type 0

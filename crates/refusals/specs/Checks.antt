@@ -6,7 +6,7 @@ use mathlib.Core.List.{List, [], ◌∷◌, ◌++◌, map, Memᴰ}
 use Rattle.std.specs.Float.Ieee.Fits.{and_l, and_r}
 use Rattle.lists.specs.Any.{any_of}
 use Rattle.lists.specs.Tests.{neither, by-test}
-use Rattle.refusals.specs.Refusals.{Check, ◌gives◌, first_fault, none}
+use Rattle.refusals.specs.Refusals.{Check, first_fault, none}
 
 -- step by step: a check that found nothing is passed, and the first that found its fault gives its number
 pub pass : {b t : Bool} {x rest : ℕ} (n : ℕ) → t ≡ b → t ≡ false → x ≡ rest → x ≡ cond b n rest

@@ -1,5 +1,5 @@
 -- A call's checks are a list, in 01's order with 02's 11 in it (1, 10, 4, 5, 11, 6, 7, 8, 2, 3, 9): whether the fault is there, and its number. The first that is there is given, and 0 where none is.
-use Rattle.std.specs.Prelude.{ℕ, Bool, true, false, cond, List, [], ◌∷◌}
+use Rattle.std.specs.Prelude.{ℕ, Bool, cond, List, [], ◌∷◌}
 
 pub record Check : Type 0 where
   pub found : Bool

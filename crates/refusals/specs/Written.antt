@@ -1,7 +1,6 @@
 -- An answer of bytes in a lent buffer: with no fault at its front, and nothing after it; with a fault the buffer is as it was.
-use Rattle.std.specs.Prelude.{◌≡◌, refl, ℕ, ◌≤◌, Bool, true, false, cond, List, ◌++◌, length, take, drop, eqb}
-use Rattle.std.proofs.Common.{sym, arith, length-append, length-take-le, eqb-true}
-use Rattle.lists.specs.Tests.{by-test}
+use Rattle.std.specs.Prelude.{◌≡◌, ℕ, ◌≤◌, Bool, true, false, cond, List, ◌++◌, length, take, drop, eqb}
+use Rattle.std.proofs.Common.{sym, arith, length-append, length-take-le}
 use Rattle.refusals.specs.declared.Written.{Written}
 use Rattle.refusals.specs.Refusals.{none}
 

@@ -1,7 +1,7 @@
 -- Rounding keeps the order of finite floats through sums, through differences, and through products with what is not below 0.
 use Rattle.std.specs.Prelude.{◌≡◌, ℕ, ◌+◌, ◌*◌, ◌≤◌, true, false, T, refl, Float}
 use Rattle.std.proofs.Common.{sym, le_trans, le_of_eq, add-le-add, mul_comm, mul-pos, mul-le-mul_right, arith}
-use Rattle.std.specs.Float.{fin, Format}
+use Rattle.std.specs.Float.{nan, inf, fin, Format}
 use Rattle.std.specs.Float.Ieee.{neg, add, sub, mul, le, of_bits}
 use Rattle.std.specs.Float.Ieee.Positive.{den, den_pos}
 use Rattle.std.specs.Float.Ieee.Scale.{finite}
@@ -26,6 +26,8 @@ add_mono f a b c d A B C D h k =
 neg_finite : (x : Float) → T (finite x) → T (finite (neg x))
 unfolding neg
 neg_finite (fin s m e) h = tt
+neg_finite nan h = elim h [ ]
+neg_finite (inf _) h = elim h [ ]
 
 pub sub_mono : (f : Format) (a b c d : Float) → T (finite a) → T (finite b) → T (finite c) → T (finite d) → T (le a b) → T (le d c) → T (le (sub f a c) (sub f b d))
 unfolding sub
@@ -35,6 +37,8 @@ no_minus : (c : Float) → T (finite c) → T (le f0 c) → minus c ≡ 0
 unfolding of_bits
 no_minus (fin false i j) C h = refl
 no_minus (fin true i j) C h = omega (arith, sides f0 (fin true i j) tt tt h)
+no_minus nan C h = elim C [ ]
+no_minus (inf _) C h = elim C [ ]
 
 pub mul_mono : (f : Format) (c x y : Float) → T (finite c) → T (finite x) → T (finite y) → T (le f0 c) → T (le x y) → T (le (mul f c x) (mul f c y))
 mul_mono f c x y C X Y z h =

@@ -35,6 +35,7 @@ signed : (x : Float) → Signed false x → NotBelow x
 signed (inf s) h = h
 signed (fin true m e) h = absurd (true≢false h)
 signed (fin false m e) h = tt
+signed nan h = elim h [ ]
 
 -- the sign is clear, or there is nothing
 abbrev Part : Bool → ℕ → Type 0
@@ -106,6 +107,8 @@ div_not f (inf s) (inf t) p q = tt
 div_not f (inf s) (fin t n d) p q = rw (p, q) refl
 div_not f (fin false m e) (inf t) p q = rw q tt
 div_not f (fin true m e) (inf t) p q = rw q refl
+div_not f (inf s) nan p q = elim q [ ]
+div_not f (fin s m e) nan p q = elim q [ ]
 div_not f (fin s m e) (fin t n d) p q =
     rw (q, unlike_turned s false)
     (by-test (n == 0) _ _ (λ u. scaled false s m e refl p)

@@ -53,6 +53,12 @@ lt-fin (fin false m e) (fin false n d) p q = same _ _ (omega (arith, ltb→lt, l
 lt-fin (fin false m e) (fin true n d) p q = same _ _ (omega (arith, ltb→lt, lt→ltb))
 lt-fin (fin true m e) (fin false n d) p q = same _ _ (omega (arith, ltb→lt, lt→ltb))
 lt-fin (fin true m e) (fin true n d) p q = same _ _ (omega (arith, ltb→lt, lt→ltb))
+lt-fin nan y p q = elim p [ ]
+lt-fin (inf _) y p q = elim p [ ]
+lt-fin (fin false m e) nan p q = elim q [ ]
+lt-fin (fin false m e) (inf _) p q = elim q [ ]
+lt-fin (fin true m e) nan p q = elim q [ ]
+lt-fin (fin true m e) (inf _) p q = elim q [ ]
 
 eq-fin : (x y : Float) → T (finite x) → T (finite y) → eq x y ≡ (side x y == side y x)
 unfolding eq
@@ -60,6 +66,12 @@ eq-fin (fin false m e) (fin false n d) p q = rw and-true (same _ _ (omega (arith
 eq-fin (fin false m e) (fin true n d) p q = same _ _ (omega (arith, eqb→eq, eq→eqb, zeros, of_zeros))
 eq-fin (fin true m e) (fin false n d) p q = same _ _ (omega (arith, eqb→eq, eq→eqb, zeros, of_zeros))
 eq-fin (fin true m e) (fin true n d) p q = rw and-true (same _ _ (omega (arith, eqb→eq, eq→eqb)))
+eq-fin nan y p q = elim p [ ]
+eq-fin (inf _) y p q = elim p [ ]
+eq-fin (fin false m e) nan p q = elim q [ ]
+eq-fin (fin false m e) (inf _) p q = elim q [ ]
+eq-fin (fin true m e) nan p q = elim q [ ]
+eq-fin (fin true m e) (inf _) p q = elim q [ ]
 
 le-fin : (x y : Float) → T (finite x) → T (finite y) → le x y ≡ not (nat_lt (side y x) (side x y))
 unfolding le
@@ -99,6 +111,9 @@ le_no_nan (inf s) (inf t) h = (refl, refl)
 le_no_nan (inf s) (fin t n d) h = (refl, refl)
 le_no_nan (fin s m e) (inf t) h = (refl, refl)
 le_no_nan (fin s m e) (fin t n d) h = (refl, refl)
+le_no_nan nan y h = elim h [ ]
+le_no_nan (inf s) nan h = elim h [ ]
+le_no_nan (fin s m e) nan h = elim h [ ]
 
 pub le_trans : (x y z : Float) → T (le x y) → T (le y z) → T (le x z)
 unfolding le
@@ -110,6 +125,23 @@ le_trans (inf false) (inf false) z h k = k
 le_trans (fin s m e) (inf false) (inf false) h k = tt
 le_trans (fin s m e) (fin t n d) (inf false) h k = tt
 le_trans (fin s m e) (fin t n d) (fin r l f) h k = trans-fin (fin s m e) (fin t n d) (fin r l f) tt tt tt h k
+le_trans nan y z h k = elim h [ ]
+le_trans (inf false) nan z h k = elim h [ ]
+le_trans (inf false) (inf true) z h k = elim h [ ]
+le_trans (inf false) (fin t n d) z h k = elim h [ ]
+le_trans (inf true) nan z h k = elim h [ ]
+le_trans (inf true) (inf false) nan h k = elim k [ ]
+le_trans (inf true) (inf false) (inf true) h k = elim k [ ]
+le_trans (inf true) (inf false) (fin r l f) h k = elim k [ ]
+le_trans (inf true) (fin t n d) nan h k = elim k [ ]
+le_trans (inf true) (fin t n d) (inf true) h k = elim k [ ]
+le_trans (fin s m e) nan z h k = elim h [ ]
+le_trans (fin s m e) (inf false) nan h k = elim k [ ]
+le_trans (fin s m e) (inf false) (inf true) h k = elim k [ ]
+le_trans (fin s m e) (inf false) (fin r l f) h k = elim k [ ]
+le_trans (fin s m e) (inf true) z h k = elim h [ ]
+le_trans (fin s m e) (fin t n d) nan h k = elim k [ ]
+le_trans (fin s m e) (fin t n d) (inf true) h k = elim k [ ]
 
 pub lt-le : (x y : Float) → T (lt x y) → T (le x y)
 unfolding le

@@ -28,15 +28,22 @@ Plain k (fin true m e) = ⊥
 
 pub plain_small : (k : ℕ) (x : Float) → Plain k x → Small k x
 plain_small k (fin false m e) h = h
+plain_small k nan h = elim h [ ]
+plain_small k (inf _) h = elim h [ ]
+plain_small k (fin true m e) h = elim h [ ]
 
 pub small_finite : (k : ℕ) (x : Float) → Small k x → T (finite x)
 small_finite k (fin false m e) h = tt
 small_finite k (fin true m e) h = tt
+small_finite k nan h = elim h [ ]
+small_finite k (inf _) h = elim h [ ]
 
 pub small_least : (k : ℕ) (x : Float) → Small k x → T (le f0 x)
 unfolding of_bits
 small_least k (fin false m e) h = of_sides f0 (fin false m e) tt tt (omega arith)
 small_least k (fin true m e) h = of_sides f0 (fin true m e) tt tt (omega (arith, ap (λ (n : ℕ). n * up e) h))
+small_least k nan h = elim h [ ]
+small_least k (inf _) h = elim h [ ]
 
 -- ---- rounding
 
@@ -50,6 +57,11 @@ under k (fin false m e) (fin true n d) s v h = absurd (true≢false v.0)
 under k (fin false m e) (fin false n d) s v h =
     let a : m * up e * down d ≤ n * up d * down e = nltb→le _ _ (subst T (le_is (fin false m e) (fin false n d) refl refl) h) in
     le_of_mul-le-mul_right (omega (arith, ap (λ (z : ℕ). z * down e) v.1)) (down_pos d)
+under k nan y s v h = elim s [ ]
+under k (inf false) nan s v h = elim v [ ]
+under k (inf false) (inf _) s v h = elim v [ ]
+under k (fin false m e) nan s v h = elim v [ ]
+under k (fin false m e) (inf _) s v h = elim v [ ]
 
 pub round_plain : (k a c : ℕ) → k ≤ 2 ^ 53 → 0 < c → a ≤ k * c → Plain k (round binary64 false a c)
 round_plain k a c h C l =
@@ -69,12 +81,20 @@ round-small true k a c h C l z = rw (z refl, round-zero binary64 true c C) refl
 pub value_plain : (k a c : ℕ) (x : Float) → 0 < c → a ≤ k * c → HasValue x false a c → Plain k x
 value_plain k a c (fin true m e) C h v = absurd (true≢false v.0)
 value_plain k a c (fin false m e) C h v = le_of_mul-le-mul_right (omega (arith, v.1, mul-le-mul_right (down e) h)) C
+value_plain k a c nan C h v = elim v [ ]
+value_plain k a c (inf _) C h v = elim v [ ]
 
 -- ---- the operations
 
 pub mul_plain : (j k : ℕ) (x y : Float) → j * k ≤ 2 ^ 53 → Plain j x → Plain k y → Plain (j * k) (mul binary64 x y)
 unfolding mul
 mul_plain j k (fin false m e) (fin false n d) h p q = round_plain (j * k) (m * up e * (n * up d)) (down e * down d) h (mul-pos (down_pos e) (down_pos d)) (omega (arith, mul-le-mul p q))
+mul_plain j k nan y h p q = elim p [ ]
+mul_plain j k (inf _) y h p q = elim p [ ]
+mul_plain j k (fin false m e) nan h p q = elim q [ ]
+mul_plain j k (fin false m e) (inf _) h p q = elim q [ ]
+mul_plain j k (fin false m e) (fin true n d) h p q = elim q [ ]
+mul_plain j k (fin true m e) y h p q = elim p [ ]
 
 pub mul_small : (j k : ℕ) (x y : Float) → j * k ≤ 2 ^ 53 → Small j x → Small k y → Small (j * k) (mul binary64 x y)
 unfolding mul
@@ -85,12 +105,26 @@ mul_small j k (fin false m e) (fin true n d) h p q =
 mul_small j k (fin true m e) (fin t n d) h p q =
     let z : m * up e * (n * up d) ≡ 0 = omega (arith, ap (λ (w : ℕ). w * up e * (n * up d)) p) in
     round-small (not (beq true t)) (j * k) (m * up e * (n * up d)) (down e * down d) h (mul-pos (down_pos e) (down_pos d)) (omega arith) (λ u. z)
+mul_small j k nan y h p q = elim p [ ]
+mul_small j k (inf _) y h p q = elim p [ ]
+mul_small j k (fin false m e) nan h p q = elim q [ ]
+mul_small j k (fin false m e) (inf _) h p q = elim q [ ]
+mul_small j k (fin true m e) nan h p q = elim q [ ]
+mul_small j k (fin true m e) (inf _) h p q = elim q [ ]
 
 -- with a sign that is clear on the right the sum's is clear
 pub add_plain : (j k : ℕ) (x y : Float) → j + k ≤ 2 ^ 53 → Small j x → Plain k y → Plain (j + k) (add binary64 x y)
 unfolding add sum
 add_plain j k (fin false m e) (fin false n d) h p q =
     round_plain (j + k) (m * up e * down d + n * up d * down e) (down e * down d) h (mul-pos (down_pos e) (down_pos d)) (omega (arith, mul-le-mul_right (down d) p, mul-le-mul_right (down e) q))
+add_plain j k nan y h p q = elim p [ ]
+add_plain j k (inf _) y h p q = elim p [ ]
+add_plain j k (fin false m e) nan h p q = elim q [ ]
+add_plain j k (fin false m e) (inf _) h p q = elim q [ ]
+add_plain j k (fin false m e) (fin true n d) h p q = elim q [ ]
+add_plain j k (fin true m e) nan h p q = elim q [ ]
+add_plain j k (fin true m e) (inf _) h p q = elim q [ ]
+add_plain j k (fin true m e) (fin true n d) h p q = elim q [ ]
 add_plain j k (fin true m e) (fin false n d) h p q =
     let z : m * up e * down d ≡ 0 = omega (arith, ap (λ (w : ℕ). w * up e * down d) p) in
     go (m * up e * down d) (n * up d * down e) (nat_lt (m * up e * down d) (n * up d * down e)) z (omega (arith, mul-le-mul_right (down e) q))
@@ -109,6 +143,10 @@ add_small j k (fin false m e) (fin true n d) h p q =
 add_small j k (fin true m e) (fin true n d) h p q =
     let z : m * up e * down d + n * up d * down e ≡ 0 = omega (arith, ap (λ (w : ℕ). w * up e * down d) p, ap (λ (w : ℕ). w * up d * down e) q) in
     round-small true (j + k) (m * up e * down d + n * up d * down e) (down e * down d) h (mul-pos (down_pos e) (down_pos d)) (omega arith) (λ t. z)
+add_small j k x nan h p q = elim q [ ]
+add_small j k x (inf _) h p q = elim q [ ]
+add_small j k nan (fin true n d) h p q = elim p [ ]
+add_small j k (inf _) (fin true n d) h p q = elim p [ ]
 
 -- a divisor of 1 or more makes it no greater
 pub div_plain : (k a c : ℕ) (x y : Float) → k ≤ 2 ^ 53 → 0 < c → c ≤ a → Plain k x → HasValue y false a c → Plain k (div binary64 x y)
@@ -120,3 +158,8 @@ div_plain k a c (fin false m e) (fin false n d) h C l p v =
     let above : 0 < n * up d = omega (arith, down_pos d) in
     rw (ne_eqb n 0 some)
     (round_plain k (m * up e * down d) (n * up d * down e) h (mul-pos above (down_pos e)) (omega (arith, mul-le-mul_right (down d) p, mul-le-mul_right (k * down e) one)))
+div_plain k a c nan y h C l p v = elim p [ ]
+div_plain k a c (inf _) y h C l p v = elim p [ ]
+div_plain k a c (fin false m e) nan h C l p v = elim v [ ]
+div_plain k a c (fin false m e) (inf _) h C l p v = elim v [ ]
+div_plain k a c (fin true m e) y h C l p v = elim p [ ]

@@ -1,7 +1,7 @@
 -- Sums and products of finite floats are rounded differences of their parts, and rounding keeps the order of such differences.
 use Rattle.std.specs.Prelude.{◌≡◌, ℕ, ◌+◌, ◌-◌, ◌*◌, ◌<◌, ◌≤◌, Bool, true, false, cond, T, nat_lt, refl, Float}
 use Rattle.std.proofs.Common.{sym, ap, true≢false, arith, lit<, ltb-true, ltb-false}
-use Rattle.std.specs.Float.{inf, fin, Format}
+use Rattle.std.specs.Float.{nan, inf, fin, Format}
 use Rattle.std.specs.Float.Ieee.{up, down, round, neg, sum, add, mul, le}
 use Rattle.std.specs.Float.Ieee.Order.{round_mono}
 use Rattle.std.specs.Float.Ieee.Positive.{den}
@@ -21,6 +21,13 @@ neg_anti (fin true m e) (fin true n d) h = of_sides (fin false n d) (fin false m
 neg_anti (fin true m e) (fin false n d) h = of_sides (fin true n d) (fin false m e) tt tt (omega (arith, sides (fin true m e) (fin false n d) tt tt h))
 neg_anti (fin false m e) (fin true n d) h = of_sides (fin false n d) (fin true m e) tt tt (omega (arith, sides (fin false m e) (fin true n d) tt tt h))
 neg_anti (fin false m e) (fin false n d) h = of_sides (fin true n d) (fin true m e) tt tt (omega (arith, sides (fin false m e) (fin false n d) tt tt h))
+neg_anti nan y h = elim h [ ]
+neg_anti (inf false) nan h = elim h [ ]
+neg_anti (inf false) (inf true) h = elim h [ ]
+neg_anti (inf false) (fin t n d) h = elim h [ ]
+neg_anti (inf true) nan h = elim h [ ]
+neg_anti (fin s m e) nan h = elim h [ ]
+neg_anti (fin s m e) (inf true) h = elim h [ ]
 
 -- ---- rounded differences
 
@@ -40,6 +47,9 @@ signs (fin false m e) y p q = absurd (true≢false (sym p))
 signs (inf true) (inf true) p q = absurd (true≢false q)
 signs (fin true m e) (inf true) p q = absurd (true≢false q)
 signs (fin true m e) (fin true n d) p q = absurd (true≢false q)
+signs nan y p q = elim p [ ]
+signs (inf true) nan p q = elim q [ ]
+signs (fin true m e) nan p q = elim q [ ]
 
 -- r is the difference of p and q
 grows : (p q r c p' q' r' c' : ℕ) → p ≡ q + r → p' ≡ q' + r' → p * c' + q' * c ≤ p' * c + q * c' → r * c' ≤ r' * c
@@ -93,6 +103,12 @@ add_rounds f (fin false m e) (fin false n d) p q = above (m * up e * down d + n 
 add_rounds f (fin false m e) (fin true n d) p q = first-minus f (m * up e * down d) (n * up d * down e) (down e * down d) _ _ (omega arith) (omega arith)
 add_rounds f (fin true m e) (fin false n d) p q = minus-first f (m * up e * down d) (n * up d * down e) (down e * down d) _ _ (omega arith) (omega arith)
 add_rounds f (fin true m e) (fin true n d) p q = below (m * up e * down d + n * up d * down e) (omega arith) refl
+add_rounds f nan y p q = elim p [ ]
+add_rounds f (inf _) y p q = elim p [ ]
+add_rounds f (fin false m e) nan p q = elim q [ ]
+add_rounds f (fin false m e) (inf _) p q = elim q [ ]
+add_rounds f (fin true m e) nan p q = elim q [ ]
+add_rounds f (fin true m e) (inf _) p q = elim q [ ]
 
 -- ---- the product
 
@@ -102,3 +118,9 @@ mul-rounds f (fin false m e) (fin false n d) p q = above (m * up e * (n * up d))
 mul-rounds f (fin false m e) (fin true n d) p q = below (m * up e * (n * up d)) (omega arith) refl
 mul-rounds f (fin true m e) (fin false n d) p q = below (m * up e * (n * up d)) (omega arith) refl
 mul-rounds f (fin true m e) (fin true n d) p q = above (m * up e * (n * up d)) (omega arith) refl
+mul-rounds f nan y p q = elim p [ ]
+mul-rounds f (inf _) y p q = elim p [ ]
+mul-rounds f (fin false m e) nan p q = elim q [ ]
+mul-rounds f (fin false m e) (inf _) p q = elim q [ ]
+mul-rounds f (fin true m e) nan p q = elim q [ ]
+mul-rounds f (fin true m e) (inf _) p q = elim q [ ]

@@ -16,6 +16,8 @@ Signed s (fin t m e) = t ≡ s
 
 value_sign : (x : Float) (s : Bool) (a c : ℕ) → HasValue x s a c → Signed s x
 value_sign (fin t m e) s a c v = v.0
+value_sign nan s a c v = elim v [ ]
+value_sign (inf _) s a c v = elim v [ ]
 
 units_sign : (f : Format) (s : Bool) (q k : ℕ) → Signed s (units f s q k)
 unfolding units

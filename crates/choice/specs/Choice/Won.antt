@@ -6,7 +6,7 @@ use mathlib.Core.List.Memᴰ
 use mathlib.Core.List.{List, [], ◌∷◌, Memᴰ}
 use Rattle.std.specs.Float.Ieee.{is_nan, lt}
 use Rattle.std.specs.Float.Ieee.Bits.{is_true}
-use Rattle.std.proofs.lemmas.Bool.{not_true}
+use Rattle.std.proofs.lemmas.Bool.{not-true}
 use Rattle.arith.specs.Floats.Order.{le_is, le_trans, lt-le, not_lt_le}
 use Rattle.kinds.specs.declared.focus.FocusLevel.{FocusLevel}
 use Rattle.kinds.specs.declared.focus.FocusLevel.TheVariants.{None as Nothing, Level}
@@ -27,9 +27,9 @@ Number c = is_nan c.score ≡ false
 score-order : Orders lower_score Number
 score-order =
     record {
-      asym = λ x y p q h. not_true (lt y.score x.score) (sym (le_is x.score y.score p q) ∙ is_true _ (lt-le x.score y.score (subst T (sym h) tt)));
+      asym = λ x y p q h. not-true (lt y.score x.score) (sym (le_is x.score y.score p q) ∙ is_true _ (lt-le x.score y.score (subst T (sym h) tt)));
       trans = λ x y z p q r h k.
-          not_true (lt z.score x.score)
+          not-true (lt z.score x.score)
           (sym (le_is x.score z.score p r) ∙ is_true _ (le_trans x.score y.score z.score (not_lt_le x.score y.score p q h) (not_lt_le y.score z.score q r k)));
     }
 

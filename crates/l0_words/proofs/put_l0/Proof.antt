@@ -5,7 +5,7 @@ use mathlib.Core.List.{[], ◌∷◌}
 use native.Mathlib.Omega.{arith}
 use lib.ListN.{length}
 use borrow.Author.Rules.{rules}
-use borrow.Author.Tests.{not_true, not-false, ltb-false}
+use borrow.Author.Tests.{not-true, not-false, ltb-false}
 use Rattle.records.specs.Tables.{tables_of}
 use Rattle.faults.specs.Tables.{too_many_tables}
 use Rattle.levels.specs.Levels.{places_of}
@@ -44,7 +44,7 @@ slice-aggregate-level-places c = refl
 
 returns-2 : tie.Need-returns-2
 returns-2 c = let a = c.before.before.before.before.before.before.before.before.before.before.before.args in
-    rw (l0_due a.tables.now a.keys.now a.trigger _ false (few c.before.before.before.before.before) c.before.before.before.level-places.ensures.0 (sym (not_true _ c.if2.true) ∙ c.before.due.ensures)) (written_none _ _ _)
+    rw (l0_due a.tables.now a.keys.now a.trigger _ false (few c.before.before.before.before.before) c.before.before.before.level-places.ensures.0 (sym (not-true _ c.if2.true) ∙ c.before.due.ensures)) (written_none _ _ _)
 
 slice-aggregate-level-places-2 : tie.Need-slice-aggregate-level-places-2
 slice-aggregate-level-places-2 c = refl

@@ -1,5 +1,5 @@
 -- What a text is accepted as, and that each number below 2^64 is accepted as written: in decimal, and as 16 hex digits, each of either case.
-use Rattle.std.specs.Prelude.{◌≡◌, refl, ℕ, zero, suc, ◌+◌, ◌-◌, ◌*◌, ◌/◌, ◌%◌, ◌^◌, ◌≤◌, ◌<◌, Bool, true, false, cond, ◌&&◌, List, [], ◌∷◌, ◌++◌, length, get_or, ltb, eqb}
+use Rattle.std.specs.Prelude.{◌≡◌, refl, ℕ, zero, suc, ◌+◌, ◌*◌, ◌/◌, ◌%◌, ◌^◌, ◌≤◌, ◌<◌, Bool, true, false, cond, ◌&&◌, List, [], ◌∷◌, ◌++◌, length, get_or, ltb, eqb}
 use Rattle.std.proofs.Common.{sym, ◌∙◌, lt_trans, div-lt_iff_lt-mul, pow-suc, arith, length-append, lit<, lt-ltb, le-leb, ltb-true, ltb-false, eqb-true, ne_eqb}
 use Rattle.std.proofs.Math.Nat.{pow-zero}
 use Rattle.std.proofs.lemmas.Bool.{false≢true, lt-leb}

@@ -2,7 +2,7 @@
 use Rattle.std.specs.Prelude.{◌≡◌, refl, ℕ, suc, ◌+◌, ◌*◌, ◌^◌, ◌≤◌, ◌<◌, Bool, true, false, List, [], ◌∷◌, length, leb, eqb}
 use Rattle.std.proofs.Common.{le_trans, lt_trans, not-le_of_lt, le-add_right, mul-le-mul, mul-le-mul_right, mul_assoc, arith, lit<, leb-true, leb-false}
 use Rattle.std.proofs.Math.Nat.{pow-zero, pow-succ', pow-le-pow_right}
-use Rattle.std.proofs.lemmas.Bool.{eqb-false, not_true}
+use Rattle.std.proofs.lemmas.Bool.{eqb-false, not-true}
 use Rattle.numerals.specs.declared.Number.TheVariants.{Value}
 use Rattle.lists.specs.Tests.{both}
 use Rattle.numerals.specs.Numbers.{is_digit, all_of, value_from, digit_of, well_begun, decimal_of}
@@ -19,7 +19,7 @@ value-least digit base n (b ∷ bs) =
 -- the first of more digits than one is not 0
 first_some : (a b : ℕ) (bs : List ℕ) → all_of is_digit (a ∷ b ∷ bs) ≡ true → well_begun (a ∷ b ∷ bs) ≡ true → 0 < digit_of a
 unfolding all_of well_begun
-first_some a b bs d w = omega (arith, between 48 57 a (both (is_digit a) _ d).0, eqb-false a 48 (not_true (eqb a 48) w))
+first_some a b bs d w = omega (arith, between 48 57 a (both (is_digit a) _ d).0, eqb-false a 48 (not-true (eqb a 48) w))
 
 -- with 21 digits it would be 10^20 or more, which is above 2^64
 pub decimal-short : (bs : List ℕ) (n : ℕ) → decimal_of bs ≡ Value n → length bs ≤ 20

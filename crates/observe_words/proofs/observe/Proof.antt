@@ -3,7 +3,7 @@ use Rattle.modes.specs.declared.NextMode.{NextMode}
 use Rattle.state_words.specs.StateWords.{gated, words_after}
 use Rattle.state_words.specs.StateWords.Sound.{good}
 use Rattle.observe_words.specs.ObserveWords.Laws.{refused, accepted, room}
-use borrow.Author.Tests.{not_true, not-false}
+use borrow.Author.Tests.{not-true, not-false}
 use mathlib.Core.Path.{sym, ◌∙◌, ap}
 use borrow.Author.Rules.{rules}
 use Rattle.observe_words.proofs.observe.Statement.{statement}
@@ -11,7 +11,7 @@ use Rattle.observe_words.proofs.observe.Tie as tie
 
 returns : tie.Need-returns
 unfolding gated words_after
-returns c = let e = sym c.before.is_state.ensures ∙ not_true _ c.if1.true in (simp e, simp e)
+returns c = let e = sym c.before.is_state.ensures ∙ not-true _ c.if1.true in (simp e, simp e)
 
 next-requires : tie.Need-next-requires
 next-requires c κs = (good _ (sym c.before.before.before.is_state.ensures ∙ not-false _ c.before.before.if1.false), c.before.l0-fraction.ensures)

@@ -5,7 +5,7 @@ use Rattle.candidate_records.specs.Candidates.{candidates_of}
 use lib.ListN.{length}
 use mathlib.Core.Path.{refl, sym, ◌∙◌}
 use mathlib.Core.Bool.{true, false}
-use borrow.Author.Tests.{not_true, not-false}
+use borrow.Author.Tests.{not-true, not-false}
 use Prim.Native.Nat.{◌-◌, ◌≤◌}
 use borrow.Author.Rules.{rules}
 use native.Mathlib.Omega.{arith}
@@ -26,7 +26,7 @@ loop-less c = search rules
 
 loop-again : tie.Need-loop-preserved invariant-loop decreases-loop
 loop-again c = let a = c.before.before.before.before.before.before.before.before.before.args in let l = c.before.before.before.before.before.loop in
-    (omega arith, held_next a.search (read_choice a.candidates.now a.estimates.now a.scores) (length (candidates_of a.candidates.now)) l.best l.i true false (omega arith) (sym (c.before.before.before.is-compared.ensures a.scores) ∙ c.before.before.if1.true) (sym (c.before.is-below-best.ensures a.estimates.now) ∙ not_true _ c.if2.true) l.invariant.1)
+    (omega arith, held_next a.search (read_choice a.candidates.now a.estimates.now a.scores) (length (candidates_of a.candidates.now)) l.best l.i true false (omega arith) (sym (c.before.before.before.is-compared.ensures a.scores) ∙ c.before.before.if1.true) (sym (c.before.is-below-best.ensures a.estimates.now) ∙ not-true _ c.if2.true) l.invariant.1)
 
 loop-less-2 : tie.Need-loop-smaller-2 invariant-loop decreases-loop
 loop-less-2 c = search rules

@@ -4,7 +4,7 @@ use Rattle.kinds.specs.Tuning.{source}
 use Rattle.state_words.specs.StateWords.{state_from, gated, words_after}
 use Rattle.state_words.specs.StateWords.Sound.{good}
 use Rattle.observe_words.specs.ObserveWords.Engine.{refused-before, refused, accepted}
-use borrow.Author.Tests.{not_true, not-false}
+use borrow.Author.Tests.{not-true, not-false}
 use mathlib.Core.Path.{sym, ◌∙◌}
 use borrow.Author.Rules.{rules}
 use Rattle.observe_words.proofs.windowed.observe_engine.Statement.{statement}
@@ -12,7 +12,7 @@ use Rattle.observe_words.proofs.windowed.observe_engine.Tie as tie
 
 returns : tie.Need-returns
 unfolding gated words_after
-returns c = let e = sym c.before.is_state.ensures ∙ not_true _ c.if1.true in (simp e, simp e)
+returns c = let e = sym c.before.is_state.ensures ∙ not-true _ c.if1.true in (simp e, simp e)
 
 window-fault-requires : tie.Need-window-fault-requires
 window-fault-requires c κs = good _ (sym c.before.before.is_state.ensures ∙ not-false _ c.before.if1.false)
