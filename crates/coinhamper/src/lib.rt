@@ -1,4 +1,4 @@
-// The calls for C and Rust, as numbers and lent slices: libcoinhamper.a. A call answers its refusal, 0 for none, unless it says that it answers a number; where it is refused, nothing that was lent is changed.
+// The calls for C and Rust, as numbers and lent slices; coinhamper_c hands them out in libcoinhamper.a. A call answers its refusal, 0 for none, unless it says that it answers a number; where it is refused, nothing that was lent is changed.
 #![tactic(auto)]
 
 ghost use Rattle.std.specs.Prelude.{◌≡◌};
