@@ -142,7 +142,7 @@ pub fn snapshot_refusal(a: SnapshotAnswer) -> u64
     }
 }
 
-#[derive(Drop)]
+#[derive(Clone, Copy)]
 struct WinnerWords {
     flag: u64,
     place: u64,

@@ -1060,7 +1060,7 @@ fn units(big: u64, k: u64) -> u64
 }
 
 // It stands for big / 2^53 * 2^k.
-#[derive(Drop)]
+#[derive(Clone, Copy)]
 struct Normal {
     big: u64,
     k: u64,

@@ -7,7 +7,7 @@ ghost use Rattle.candidate_records.specs.Candidates.{candidates_of, candidate_at
 use arith::floats;
 use records::words::word;
 
-#[derive(Drop)]
+#[derive(Clone, Copy)]
 pub struct Candidate {
     pub kind: u64,
     pub level: u64,
@@ -17,7 +17,7 @@ pub struct Candidate {
     pub count: u64,
 }
 
-#[derive(Drop)]
+#[derive(Clone, Copy)]
 pub struct CandidateEstimate {
     pub input_bytes: u64,
     pub overlap_bytes: u64,

@@ -8,7 +8,7 @@ ghost use Rattle.candidates.specs.Generate.{generate_input, words_checks, input_
 use candidate_words::put_candidates;
 use l0_words::Ends;
 
-#[derive(Drop)]
+#[derive(Clone, Copy)]
 pub struct Generated {
     pub refusal: u64,
     pub candidates: usize,

@@ -18,7 +18,7 @@ use search::{Scores, Search};
 // So many jobs in a row go to one level before the best score overall decides anew.
 const FOCUS_MAX_CONSECUTIVE_JOBS: u32 = 3;
 
-#[derive(Drop)]
+#[derive(Clone, Copy)]
 pub struct Picked {
     pub refusal: u64,
     pub winner: Winner,

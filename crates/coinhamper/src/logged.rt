@@ -9,7 +9,7 @@ ghost use Rattle.replay_lines.specs.Replay.{replayed_of, replay_out};
 ghost use Rattle.log_words.specs.LogWords.{head_of, record_refusal, record_head, record_words, read_refusal, read_head, read_words, place_of};
 
 use answer_words::tell;
-use log::DecisionLog;
+use decision_log::DecisionLog;
 use log_words::head_in;
 
 // Answers a number: 1 where the words are a decision, 0 where they are none.
@@ -33,7 +33,7 @@ pub extern "C" fn coinhamper_kept_place(first: u64, k: u64) -> u64
         count: 0,
         sequence: 0,
     };
-    log::kept_place(g, k)
+    decision_log::kept_place(g, k)
 }
 
 // 10, then 5 for words that are no decision. The log gives the sequence.

@@ -11,7 +11,7 @@ use kinds::vector::{PressureSource, PressureVector};
 // The words of a decision.
 pub const DECISION_WIDTH: usize = 14;
 
-#[derive(Drop)]
+#[derive(Clone, Copy)]
 pub struct SchedulingDecision {
     pub sequence: u64,
     pub pressure: PressureVector,
@@ -26,7 +26,7 @@ pub struct SchedulingDecision {
 }
 
 // What words read back are: a decision, or none.
-#[derive(Drop)]
+#[derive(Clone, Copy)]
 pub enum DecisionRead {
     Decision(SchedulingDecision),
     None,

@@ -4,15 +4,15 @@
 ghost use Rattle.std.specs.Prelude.{◌≡◌, ◌+◌, ◌-◌, ◌*◌, ◌≤◌, length, replicate};
 ghost use Rattle.std.proofs.lemmas.List.Edits.{sets};
 ghost use Rattle.refusals.specs.Written.{Counts};
-ghost use Rattle.log.specs.Log.{kept_words};
+ghost use Rattle.decision_log.specs.Log.{kept_words};
 ghost use Rattle.fits.specs.Rows.{cells_from};
 ghost use Rattle.fits.specs.File.{fits_fault, length_of, fits_written, fits_out};
 ghost use Rattle.fits.specs.File.Laws.{file_length};
 
+use decision_log::{DecisionLog, kept_place, log_bad};
 use decisions::DECISION_WIDTH;
 use fits_cells::{CELL, put_cell};
 use fits_headers::{HEADERS, put_headers};
-use log::{DecisionLog, kept_place, log_bad};
 use refusals::Written;
 
 // The bytes of a block.

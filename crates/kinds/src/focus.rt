@@ -1,12 +1,12 @@
 // The focus of the choice: a level, and how often it was taken in a row.
 
-#[derive(Drop)]
+#[derive(Clone, Copy)]
 pub enum FocusLevel {
     None,
     Level(u32),
 }
 
-#[derive(Drop)]
+#[derive(Clone, Copy)]
 pub struct FocusState {
     pub current_focus: FocusLevel,
     pub streak: u32,

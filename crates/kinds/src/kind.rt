@@ -2,7 +2,7 @@
 ghost use Rattle.std.specs.Prelude.{◌≡◌};
 ghost use Rattle.kinds.specs.Numbers.{kind_number, kind_level, kind_length};
 
-#[derive(Drop)]
+#[derive(Clone, Copy)]
 pub enum ChosenKind {
     None,
     L0,
@@ -55,7 +55,7 @@ impl ChosenKind {
     }
 }
 
-#[derive(Drop)]
+#[derive(Clone, Copy)]
 pub enum CandidateKind {
     L0,
     LevelBatch { level: u32, batch_len: u64 },

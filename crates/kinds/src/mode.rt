@@ -2,7 +2,7 @@
 ghost use Rattle.std.specs.Prelude.{◌≡◌};
 ghost use Rattle.kinds.specs.Numbers.{mode_number};
 
-#[derive(Drop)]
+#[derive(Clone, Copy)]
 pub enum GovernorMode {
     Balanced,
     ReadProtect,

@@ -3,14 +3,14 @@ ghost use Rattle.std.specs.Prelude.{◌≡◌};
 ghost use Rattle.kinds.specs.Vector.{dominant_of};
 ghost use Rattle.kinds.specs.Numbers.{dominant_number};
 
-#[derive(Drop)]
+#[derive(Clone, Copy)]
 pub struct PressureVector {
     pub l0: f64,
     pub deep_debt: f64,
     pub read: f64,
 }
 
-#[derive(Drop)]
+#[derive(Clone, Copy)]
 pub enum PressureSource {
     None,
     L0,

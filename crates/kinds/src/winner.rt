@@ -1,6 +1,6 @@
 // The winner of a choice: a candidate's place in its list, from 0, or none.
 
-#[derive(Drop)]
+#[derive(Clone, Copy)]
 pub enum Winner {
     None,
     At(usize),

@@ -8,7 +8,7 @@ ghost use Rattle.l0_words.specs.Written.{Written, start};
 use faults::limits::MAX_TABLES;
 
 // Where the next word goes in each of the two.
-#[derive(Drop)]
+#[derive(Clone, Copy)]
 pub struct Ends {
     pub words: usize,
     pub numbers: usize,

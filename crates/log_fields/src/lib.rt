@@ -15,7 +15,7 @@ use replay_text::reader::{COMMA, find};
 const LAST: usize = DECISION_WIDTH - 1;
 
 // Whether a line is fourteen numbers, and which; zeros where it is not.
-#[derive(Drop)]
+#[derive(Clone, Copy)]
 pub struct DecisionLine {
     pub good: bool,
     pub words: [u64; DECISION_WIDTH],

@@ -7,8 +7,8 @@ use mathlib.Core.List.{List, [], ◌∷◌, ◌++◌, flat_map}
 use Rattle.refusals.specs.Refusals.{Check, ◌gives◌, first_fault, none, too_many, bad_record, no_room, bad_log}
 use Rattle.lists.specs.Any.{any_of}
 use Rattle.decisions.specs.Decision.{decision_width}
-use Rattle.log.specs.declared.DecisionLog.{DecisionLog}
-use Rattle.log.specs.Log.{empty_log, max_kept, log_bad}
+use Rattle.decision_log.specs.declared.DecisionLog.{DecisionLog}
+use Rattle.decision_log.specs.Log.{empty_log, max_kept, log_bad}
 use Rattle.replay_text.specs.Lines.{LF, comma, lines_of, fields_of}
 use Rattle.text_writers.specs.Rows.{row_of}
 use Rattle.log_fields.specs.declared.DecisionLine.{DecisionLine}

@@ -9,8 +9,8 @@ ghost use Rattle.replay_text.specs.Lines.{lines_of};
 ghost use Rattle.log_text.specs.Text.{too_long, read_fault, words_of, read_of, read_out, refused_line, bad_from, report_of, reported_of, report_out};
 
 use buffers::put_words;
+use decision_log::{DecisionLog, LOG_WORDS, MAX_DECISIONS_KEPT, log_bad};
 use decisions::DECISION_WIDTH;
-use log::{DecisionLog, LOG_WORDS, MAX_DECISIONS_KEPT, log_bad};
 use log_fields::line_of;
 use refusals::Written;
 use replay_text::reader::{COMMA, LF, LineAt, next_line};
@@ -20,7 +20,7 @@ use text_writers::put_row;
 pub const MOST: usize = 1110016;
 
 // What reading a text answers: the log, or the empty one beside a refusal.
-#[derive(Drop)]
+#[derive(Clone, Copy)]
 pub struct TextRead {
     pub refusal: u64,
     pub log: DecisionLog,
@@ -103,7 +103,7 @@ fn too_long(text: &[u8]) -> bool
 fn read_fault(text: &[u8], length: usize) -> u64
     ensures { result ≡ read_fault text.now length }
 {
-    if log_bad(log::empty(), length) {
+    if log_bad(decision_log::empty(), length) {
         return refusals::BAD_LOG;
     }
     if too_long(text) {
@@ -136,7 +136,7 @@ pub fn read_log(text: &[u8], words: &mut [u64]) -> TextRead
     if refusal != refusals::NONE {
         return TextRead {
             refusal,
-            log: log::empty(),
+            log: decision_log::empty(),
         };
     }
     let count = put_lines(text, words);

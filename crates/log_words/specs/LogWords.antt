@@ -3,8 +3,8 @@ pub mod Told
 use Rattle.std.specs.Prelude.{ℕ, ◌-◌, ◌^◌, Bool, not, cond, List, [], ◌∷◌, length, get_or, eqb}
 use Rattle.refusals.specs.Refusals.{◌gives◌, first_fault, none, bad_record, bad_log}
 use Rattle.decisions.specs.Decision.{is_decision, decision_in}
-use Rattle.log.specs.declared.DecisionLog.{DecisionLog}
-use Rattle.log.specs.Log.{log_bad, kept_place}
+use Rattle.decision_log.specs.declared.DecisionLog.{DecisionLog}
+use Rattle.decision_log.specs.Log.{log_bad, kept_place}
 use Rattle.recording.specs.Recording.{recorded_of, recorded_words}
 use Rattle.log_text.specs.Text.{read_of, read_out}
 

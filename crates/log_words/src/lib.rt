@@ -4,8 +4,8 @@
 ghost use Rattle.std.specs.Prelude.{◌≡◌, length};
 ghost use Rattle.log_words.specs.LogWords.{head_of, three_words, record_refusal, record_head, record_words, read_refusal, read_head, read_words};
 
+use decision_log::DecisionLog;
 use decisions::DecisionRead;
-use log::DecisionLog;
 
 // Not three words are no log, as a first place past all of them says to the calls below.
 pub fn head_in(head: &[u64]) -> DecisionLog
@@ -41,7 +41,7 @@ pub fn record_decision(head: &mut [u64], words: &mut [u64], decision: &[u64]) ->
     ensures words_after { words.new ≡ record_words head.old words.old decision.now }
 {
     let g = head_in(&*head);
-    if log::log_bad(g, words.len()) {
+    if decision_log::log_bad(g, words.len()) {
         return refusals::BAD_LOG;
     }
     let DecisionRead::Decision(d) = decisions::of_words(decision) else {

@@ -3,7 +3,7 @@
 
 use records::tables::Table;
 
-#[derive(Drop)]
+#[derive(Clone, Copy)]
 pub enum Lookup {
     None,
     One(Table),

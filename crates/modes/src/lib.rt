@@ -12,7 +12,7 @@ use kinds::tuning::{
 use state::Streaks;
 use thresholds::{emergency_now, has_recovered, is_calm, is_high};
 
-#[derive(Drop)]
+#[derive(Clone, Copy)]
 pub struct NextMode {
     pub mode: GovernorMode,
     pub streaks: Streaks,

@@ -1,8 +1,8 @@
 -- The log after one more decision. Definitions only.
 pub mod Small
 use Rattle.std.specs.Prelude.{ℕ, ◌+◌, ◌-◌, ◌^◌, min, cond, ltb}
-use Rattle.log.specs.declared.DecisionLog.{DecisionLog}
-use Rattle.log.specs.Log.{max_kept, kept_place}
+use Rattle.decision_log.specs.declared.DecisionLog.{DecisionLog}
+use Rattle.decision_log.specs.Log.{max_kept, kept_place}
 
 -- the next goes after the newest, or over the oldest when all places are kept
 unfoldable pub next_place : DecisionLog → ℕ

@@ -4,7 +4,7 @@
 ghost use Rattle.std.specs.Prelude.{◌≡◌};
 ghost use Rattle.next_log.specs.Next.{next_place, next_log, next_sequence};
 
-use log::{DecisionLog, MAX_DECISIONS_KEPT, kept_place};
+use decision_log::{DecisionLog, MAX_DECISIONS_KEPT, kept_place};
 
 pub fn next_place(log: DecisionLog) -> u64
     ensures { result ≡ next_place log }

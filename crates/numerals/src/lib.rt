@@ -5,7 +5,7 @@ ghost use Rattle.std.specs.Prelude.{◌≡◌, ◌&&◌, ◌<◌, leb};
 ghost use Rattle.numerals.specs.Numbers.{decimal_of, bits_of, digit_value, number_from};
 
 // What a text reads as: a number, or none.
-#[derive(Drop)]
+#[derive(Clone, Copy)]
 pub enum Number {
     Value(u64),
     None,

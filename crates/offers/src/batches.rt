@@ -8,7 +8,7 @@ use counts::smaller;
 use records::tables;
 
 // Table places, the first `len` of the eight.
-#[derive(Drop)]
+#[derive(Clone, Copy)]
 pub struct Batch {
     pub places: [usize; MAX_ADAPTIVE_BATCH],
     pub len: usize,

@@ -22,7 +22,7 @@ const PRESSURE_READAMP_WEIGHT: f64 = 0.3;
 
 const PRESSURE_BACKLOG_NORMALIZATION: f64 = 3.0;
 
-#[derive(Drop)]
+#[derive(Clone, Copy)]
 pub struct PressureSample {
     pub l0_count: u64,
     pub l0_write_stall_trigger: u64,
@@ -31,7 +31,7 @@ pub struct PressureSample {
     pub backlog_levels: u64,
 }
 
-#[derive(Drop)]
+#[derive(Clone, Copy)]
 pub struct Components {
     pub l0: f64,
     pub debt: f64,

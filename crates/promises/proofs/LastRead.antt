@@ -6,7 +6,7 @@ use lib.ListN.{length, drop}
 use Rattle.refusals.specs.Refusals.{none}
 use Rattle.decisions.specs.declared.SchedulingDecision.{SchedulingDecision}
 use Rattle.decisions.specs.Decision.{decision_width}
-use Rattle.log.specs.Log.{max_kept, log_words}
+use Rattle.decision_log.specs.Log.{max_kept, log_words}
 use Rattle.recording.specs.Recording.Run.{started, run, numbered_from, last_of, joined}
 use Rattle.recording.specs.Recording.Last.{last-good, last-count, last-kept}
 use Rattle.recent.specs.Recent.{recent_of, recent_out}

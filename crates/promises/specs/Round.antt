@@ -25,8 +25,8 @@ use Rattle.choice.specs.Choice.Wins.{Wins}
 use Rattle.decisions.specs.declared.SchedulingDecision.{SchedulingDecision}
 use Rattle.decisions.specs.Decision.{decision_width, decision_words, is_decision}
 use Rattle.trace.specs.Trace.{decision_of}
-use Rattle.log.specs.declared.DecisionLog.{DecisionLog}
-use Rattle.log.specs.Log.{max_kept, log_bad, kept_words}
+use Rattle.decision_log.specs.declared.DecisionLog.{DecisionLog}
+use Rattle.decision_log.specs.Log.{max_kept, log_bad, kept_words}
 use Rattle.recording.specs.declared.Recorded.{Recorded}
 use Rattle.next_log.specs.Next.{next_sequence}
 use Rattle.recording.specs.Recording.{numbered, recorded_of, recorded_words}

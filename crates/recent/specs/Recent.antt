@@ -3,8 +3,8 @@ pub mod Sound
 use Rattle.std.specs.Prelude.{ℕ, ◌*◌, cond, List, [], ◌∷◌, ◌++◌, length, drop, ltb, eqb}
 use Rattle.refusals.specs.Refusals.{◌gives◌, first_fault, none, bad_log, no_room}
 use Rattle.decisions.specs.Decision.{decision_width}
-use Rattle.log.specs.declared.DecisionLog.{DecisionLog}
-use Rattle.log.specs.Log.{log_bad, kept_words}
+use Rattle.decision_log.specs.declared.DecisionLog.{DecisionLog}
+use Rattle.decision_log.specs.Log.{log_bad, kept_words}
 use Rattle.recent.specs.declared.Recent.{Recent}
 
 -- 10, 9

@@ -5,10 +5,10 @@ ghost use Rattle.std.specs.Prelude.{◌≡◌, length};
 ghost use Rattle.recent.specs.Recent.{recent_fault, recent_of, recent_out};
 
 use buffers::put_words;
+use decision_log::{DecisionLog, kept_place, log_bad};
 use decisions::DECISION_WIDTH;
-use log::{DecisionLog, kept_place, log_bad};
 
-#[derive(Drop)]
+#[derive(Clone, Copy)]
 pub struct Recent {
     pub refusal: u64,
     pub count: u64,

@@ -10,8 +10,8 @@ use Rattle.std.proofs.lemmas.List.Edits.{sets}
 use Rattle.refusals.specs.Refusals.{◌gives◌, first_fault, none, bad_log}
 use Rattle.decisions.specs.declared.SchedulingDecision.{SchedulingDecision}
 use Rattle.decisions.specs.Decision.{decision_width, decision_words}
-use Rattle.log.specs.declared.DecisionLog.{DecisionLog}
-use Rattle.log.specs.Log.{log_bad}
+use Rattle.decision_log.specs.declared.DecisionLog.{DecisionLog}
+use Rattle.decision_log.specs.Log.{log_bad}
 use Rattle.next_log.specs.Next.{next_place, next_sequence, next_log}
 use Rattle.recording.specs.declared.Recorded.{Recorded}
 

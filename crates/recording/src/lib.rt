@@ -5,11 +5,11 @@ ghost use Rattle.std.specs.Prelude.{◌≡◌, length};
 ghost use Rattle.recording.specs.Recording.{numbered, record_fault, recorded_of, recorded_words};
 
 use buffers::put_words;
+use decision_log::{DecisionLog, log_bad};
 use decisions::{DECISION_WIDTH, SchedulingDecision};
-use log::{DecisionLog, log_bad};
 use next_log::{next_log, next_place, next_sequence};
 
-#[derive(Drop)]
+#[derive(Clone, Copy)]
 pub struct Recorded {
     pub refusal: u64,
     pub log: DecisionLog,

@@ -4,7 +4,7 @@ ghost use Rattle.records.specs.Tables.{tables_of, table_at, entries_of, entry_at
 
 use crate::words::word;
 
-#[derive(Drop)]
+#[derive(Clone, Copy)]
 pub struct Table {
     pub number: u64,
     pub level: u64,
@@ -15,7 +15,7 @@ pub struct Table {
     pub last_len: u64,
 }
 
-#[derive(Drop)]
+#[derive(Clone, Copy)]
 pub struct Entry {
     pub level: u64,
     pub budget: u64,

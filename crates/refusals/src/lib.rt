@@ -37,7 +37,7 @@ pub const BAD_LOG: u64 = 10;
 pub const DUPLICATE_NUMBER: u64 = 11;
 
 // What a call answers whose result is bytes at the front of a lent buffer: its refusal, and how many they are, 0 beside a refusal.
-#[derive(Drop)]
+#[derive(Clone, Copy)]
 pub struct Written {
     pub refusal: u64,
     pub length: usize,

@@ -11,7 +11,7 @@ use numerals::{Number, bits, decimal};
 use pressure::PressureSample;
 use replay_text::reader::{COMMA, find};
 
-#[derive(Drop)]
+#[derive(Clone, Copy)]
 pub enum Line {
     Observation(u64, PressureSample),
     None,
@@ -59,7 +59,7 @@ fn observed(
 }
 
 // Where the first five fields end: at a comma, or past the last one at the line's end or further on.
-#[derive(Drop)]
+#[derive(Clone, Copy)]
 struct Ends {
     clock: usize,
     l0: usize,

@@ -16,7 +16,7 @@ use text_writers::put_row;
 pub const MOST: usize = 65536;
 
 // What the whole run answers: 9 where the output has no room, else its length.
-#[derive(Drop)]
+#[derive(Clone, Copy)]
 pub struct Replayed {
     pub refusal: u64,
     pub length: usize,

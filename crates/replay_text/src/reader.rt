@@ -9,7 +9,7 @@ pub const COMMA: u8 = 44;
 const CR: u8 = 13;
 
 // Where a line stands without its end, and where the next one begins.
-#[derive(Drop)]
+#[derive(Clone, Copy)]
 pub enum LineAt {
     Part {
         start: usize,
@@ -19,7 +19,7 @@ pub enum LineAt {
     None,
 }
 
-#[derive(Drop)]
+#[derive(Clone, Copy)]
 pub struct Reader<'a> {
     pub text: &'a [u8],
     pub at: usize,

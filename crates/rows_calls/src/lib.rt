@@ -8,7 +8,7 @@ use rows_words::shape;
 use rows_words::words::{BYTES, WORDS};
 
 // A call's number, and the shape of its answer or a fault.
-#[derive(Drop)]
+#[derive(Clone, Copy)]
 pub struct Call {
     pub number: u64,
     pub told: u64,

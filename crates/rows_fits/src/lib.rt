@@ -1,7 +1,7 @@
 // The calls of fits and log_text.
 #![tactic(auto)]
 
-use log::DecisionLog;
+use decision_log::DecisionLog;
 use log_text::TextRead;
 use refusals::Written;
 use rows_seeded::{SEEDED, length_at, log_at};

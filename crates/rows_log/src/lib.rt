@@ -1,8 +1,8 @@
 // The calls of decisions and of their log, whose words come from a seed.
 #![tactic(auto)]
 
+use decision_log::DecisionLog;
 use decisions::DecisionRead;
-use log::DecisionLog;
 use recent::Recent;
 use recording::Recorded;
 use rows_seeded::{SEEDED, length_at, log_at};
@@ -130,8 +130,11 @@ fn run(args: &[u64; WORDS]) -> [u64; SHORT] {
 pub fn answer(call: u64, args: &[u64; WORDS]) -> [u64; SHORT] {
     match call {
         49 | 50 => anew(call, words::part(args, 0)),
-        51 => log_told(log::empty()),
-        52 => words::told(&[log::kept_place(log_at(args), word(args, 3))], &[]),
+        51 => log_told(decision_log::empty()),
+        52 => words::told(
+            &[decision_log::kept_place(log_at(args), word(args, 3))],
+            &[],
+        ),
         53 => record(args),
         54 => recent(args),
         _ => run(args),

@@ -21,7 +21,7 @@ fn digit(b: u8) -> u64 {
 }
 
 // A number, and the place behind it, or a fault.
-#[derive(Drop)]
+#[derive(Clone, Copy)]
 struct Numeral {
     value: u64,
     next: usize,

@@ -3,7 +3,7 @@
 
 ghost use Rattle.std.specs.Prelude.{◌≤◌};
 
-use log::DecisionLog;
+use decision_log::DecisionLog;
 use rows_words::words;
 use rows_words::words::{SHORT, WORDS, word};
 

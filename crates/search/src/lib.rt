@@ -16,7 +16,7 @@ use scores::cause_aware_score;
 pub type Scores = [f64; MAX_CANDIDATES];
 
 // What is compared: every score, a level's scores, or the lengths of a level's saturated batches.
-#[derive(Drop)]
+#[derive(Clone, Copy)]
 pub enum Search {
     All,
     OfLevel(u32),

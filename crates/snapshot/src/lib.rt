@@ -8,7 +8,7 @@ use kinds::mode::GovernorMode;
 use kinds::vector::PressureVector;
 use state::{GovernorState, Times, clock};
 
-#[derive(Drop)]
+#[derive(Clone, Copy)]
 pub struct GovernorStats {
     pub mode: GovernorMode,
     pub pressure: f64,
@@ -24,7 +24,7 @@ pub struct GovernorStats {
     pub predicted_actual_mean_abs_pct_error: f64,
 }
 
-#[derive(Drop)]
+#[derive(Clone, Copy)]
 pub enum SnapshotAnswer {
     Stats(GovernorStats),
     Refused(u64),

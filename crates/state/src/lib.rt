@@ -10,7 +10,7 @@ use kinds::vector::PressureVector;
 
 pub mod clock;
 
-#[derive(Drop)]
+#[derive(Clone, Copy)]
 pub struct Signals {
     pub tables_probed_ewma: f64,
     pub pressure_ewma: f64,
@@ -19,7 +19,7 @@ pub struct Signals {
     pub pressure_vector: PressureVector,
 }
 
-#[derive(Drop)]
+#[derive(Clone, Copy)]
 pub struct Streaks {
     pub enter_read_protect: u32,
     pub exit_read_protect: u32,
@@ -27,7 +27,7 @@ pub struct Streaks {
 }
 
 // Nanoseconds spent in each mode, and the kept clock reading.
-#[derive(Drop)]
+#[derive(Clone, Copy)]
 pub struct Times {
     pub balanced: u64,
     pub read_protect: u64,
@@ -35,13 +35,13 @@ pub struct Times {
     pub last_transition: u64,
 }
 
-#[derive(Drop)]
+#[derive(Clone, Copy)]
 pub struct Window {
     pub last_probed: u64,
     pub last_resolved: u64,
 }
 
-#[derive(Drop)]
+#[derive(Clone, Copy)]
 pub struct Counters {
     pub mode_switches: u64,
     pub batch_size_sum: u64,
@@ -52,7 +52,7 @@ pub struct Counters {
     pub predicted_actual_samples: u64,
 }
 
-#[derive(Drop)]
+#[derive(Clone, Copy)]
 pub struct GovernorState {
     pub mode: GovernorMode,
     pub signals: Signals,
@@ -64,7 +64,7 @@ pub struct GovernorState {
 }
 
 // What a call that may be refused answers: its number, and the state after it, which is the old one where it is refused.
-#[derive(Drop)]
+#[derive(Clone, Copy)]
 pub struct Observed {
     pub refusal: u64,
     pub state: GovernorState,

@@ -178,7 +178,7 @@ pub fn state_in(words: &[u64]) -> GovernorState
 }
 
 // Whether there is a level, and which.
-#[derive(Drop)]
+#[derive(Clone, Copy)]
 pub struct FocusWords {
     pub flag: u64,
     pub level: u64,

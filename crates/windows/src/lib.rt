@@ -9,7 +9,7 @@ ghost use Rattle.windows.specs.Windows.{probed_sum, resolved_sum, probed_since, 
 use kinds::mode::GovernorMode;
 use state::{Streaks, Window};
 
-#[derive(Drop)]
+#[derive(Clone, Copy)]
 pub struct ReadAmpStats {
     pub gets_total: u64,
     pub resolved_in_memtable: u64,
@@ -19,7 +19,7 @@ pub struct ReadAmpStats {
 }
 
 // An observation without its probe count.
-#[derive(Drop)]
+#[derive(Clone, Copy)]
 pub struct EngineSample {
     pub l0_count: u64,
     pub l0_write_stall_trigger: u64,

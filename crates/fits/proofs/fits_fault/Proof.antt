@@ -2,7 +2,7 @@
 use mathlib.Core.Path.{sym, ◌∙◌}
 use native.Mathlib.Omega.{arith}
 use borrow.Author.Tests.{lt-ltb, le-ltb}
-use Rattle.log.specs.Log.Sound.{is_sound}
+use Rattle.decision_log.specs.Log.Sound.{is_sound}
 use Rattle.fits.specs.File.{fits_fault}
 use Rattle.fits.specs.File.Laws.{log-length}
 use Rattle.fits.proofs.fits_fault.Statement.{statement}

@@ -1,7 +1,7 @@
 -- `fits::fits_length` meets its contract.
 use mathlib.Core.Path.{sym, ◌∙◌}
 use native.Mathlib.Omega.{arith}
-use Rattle.log.specs.Log.Sound.{is_sound}
+use Rattle.decision_log.specs.Log.Sound.{is_sound}
 use Rattle.fits.specs.File.{length_fault}
 use Rattle.fits.specs.File.Laws.{log-length}
 use Rattle.fits.proofs.fits_length.Statement.{statement}

@@ -6,8 +6,8 @@ use lib.ListN.{length, drop, get_or}
 use borrow.Author.Rules.{rules}
 use Rattle.lists.specs.Writes.{Filling, fill_start, fill-part, fill_end}
 use Rattle.columns.specs.Columns.{form_of}
-use Rattle.log.specs.Log.{kept_words}
-use Rattle.log.specs.Log.Kept.{kept-length, kept_word}
+use Rattle.decision_log.specs.Log.{kept_words}
+use Rattle.decision_log.specs.Log.Kept.{kept-length, kept_word}
 use Rattle.fits_cells.specs.Cells.{cell}
 use Rattle.fits_cells.specs.Cells.Stored.{cell-length}
 use Rattle.fits.specs.Rows.{cells_from}

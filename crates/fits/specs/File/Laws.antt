@@ -7,10 +7,10 @@ use Rattle.std.proofs.lemmas.List.{length-replicate}
 use Rattle.std.proofs.lemmas.List.Edits.{sets}
 use Rattle.std.proofs.Math.Seq.{drop-append-add, drop-append_seam}
 use Rattle.decisions.specs.Decision.{decision_width}
-use Rattle.log.specs.declared.DecisionLog.{DecisionLog}
-use Rattle.log.specs.Log.{max_kept, kept_place, place_words, kept_from, kept_words}
-use Rattle.log.specs.Log.Kept.{place-length, kept_cons, kept-split, kept-length}
-use Rattle.log.specs.Log.Sound.{Sound}
+use Rattle.decision_log.specs.declared.DecisionLog.{DecisionLog}
+use Rattle.decision_log.specs.Log.{max_kept, kept_place, place_words, kept_from, kept_words}
+use Rattle.decision_log.specs.Log.Kept.{place-length, kept_cons, kept-split, kept-length}
+use Rattle.decision_log.specs.Log.Sound.{Sound}
 use Rattle.lists.specs.Writes.{sets_append, sets_front}
 use Rattle.fits_headers.specs.Cards.{blocks}
 use Rattle.fits_headers.specs.Headers.{headers}

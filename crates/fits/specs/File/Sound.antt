@@ -3,8 +3,8 @@ use Rattle.std.specs.Prelude.{◌≡◌, ℕ, ◌≤◌, List, length}
 use Rattle.std.proofs.Common.{ltb-false}
 use Rattle.refusals.specs.Refusals.{none}
 use Rattle.refusals.specs.Checks.{none_found}
-use Rattle.log.specs.declared.DecisionLog.{DecisionLog}
-use Rattle.log.specs.Log.Sound.{Sound, is_sound}
+use Rattle.decision_log.specs.declared.DecisionLog.{DecisionLog}
+use Rattle.decision_log.specs.Log.Sound.{Sound, is_sound}
 use Rattle.fits.specs.File.{log_fits, fits_checks, fits_fault}
 
 pub write_sound : (g : DecisionLog) (ws : List ℕ) (room : ℕ) → fits_fault g ws room ≡ none → Sound g (length ws) × (length (log_fits g ws) ≤ room)

@@ -7,7 +7,7 @@ use Rattle.std.proofs.Math.Dec.{ltb}
 use Rattle.std.proofs.lemmas.Bool.{not-false}
 use Rattle.lists.specs.Any.{any_of}
 use Rattle.lists.specs.Tests.{neither}
-use Rattle.log.specs.Log.{max_kept}
+use Rattle.decision_log.specs.Log.{max_kept}
 use Rattle.replay_text.specs.Lines.{lines_of}
 use Rattle.replay_text.specs.Lines.Lengths.{bytes_with, lines-bytes}
 use Rattle.log_fields.specs.Line.Short.{good-short}

@@ -4,7 +4,7 @@ use Rattle.std.proofs.Common.{sym, ◌∙◌, arith, length-append, drop_of_leng
 use Rattle.lists.specs.Any.{any_of}
 use Rattle.lists.specs.Tests.{by-test}
 use Rattle.numerals.specs.Numbers.Digits.{digits-few}
-use Rattle.log.specs.Log.{empty_log, log_bad}
+use Rattle.decision_log.specs.Log.{empty_log, log_bad}
 use Rattle.refusals.specs.Refusals.{none, too_many, bad_record}
 use Rattle.refusals.specs.Checks.{none_found}
 use Rattle.replay_text.specs.Lines.{lines_of}

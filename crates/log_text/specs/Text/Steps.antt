@@ -10,8 +10,8 @@ use Rattle.lists.specs.Flat.{flat_length}
 use Rattle.lists.specs.Tests.{neither}
 use Rattle.lists.specs.Writes.{Filled, sets_front}
 use Rattle.decisions.specs.Decision.{decision_width}
-use Rattle.log.specs.Log.{empty_log, max_kept, log_words}
-use Rattle.log.specs.Log.Sound.{is_sound}
+use Rattle.decision_log.specs.Log.{empty_log, max_kept, log_words}
+use Rattle.decision_log.specs.Log.Sound.{is_sound}
 use Rattle.refusals.specs.Refusals.{none, too_many, bad_record, no_room}
 use Rattle.refusals.specs.Checks.{none_found}
 use Rattle.refusals.specs.Written.{Counts, with_counts}

@@ -5,7 +5,7 @@ use Rattle.refusals.specs.Refusals.{none}
 use Rattle.decisions.specs.declared.DecisionRead.{DecisionRead}
 use Rattle.decisions.specs.declared.DecisionRead.TheVariants.{Decision, None as NoDecision}
 use Rattle.decisions.specs.Decision.{is_decision, decision_in, read_of}
-use Rattle.log.specs.Log.{log_bad, log_words}
+use Rattle.decision_log.specs.Log.{log_bad, log_words}
 use Rattle.log_words.specs.LogWords.{is_head, head_of, record_refusal}
 
 pub three_set : (l : List ℕ) (a b c : ℕ) → length l ≡ 3 → set (set (set l 0 a) 1 b) 2 c ≡ a ∷ b ∷ c ∷ []

@@ -1,7 +1,7 @@
 -- `recent::recent_decisions` meets its contract. The invariant: what is left to write is the kept decisions from the k-th on.
-use Rattle.log.specs.Log.Kept.{place-length, kept_next, kept-none}
+use Rattle.decision_log.specs.Log.Kept.{place-length, kept_next, kept-none}
 use Rattle.recent.specs.Recent.Sound.{recent_sound}
-use Rattle.log.specs.Log.{max_kept, kept_place, place_words, kept_from, kept_words}
+use Rattle.decision_log.specs.Log.{max_kept, kept_place, place_words, kept_from, kept_words}
 use Rattle.recent.specs.Recent.{recent_of, recent_out}
 use Rattle.decisions.specs.Decision.{decision_width}
 use Rattle.lists.specs.Writes.{Filling, fill_start, fill-part, fill_end, sets_front}

@@ -1,7 +1,7 @@
 -- `recent::recent_fault` meets its contract.
 use borrow.Author.Tests.{lt-ltb, le-ltb}
 use mathlib.Core.Path.{sym, ◌∙◌}
-use Rattle.log.specs.Log.Sound.{is_sound}
+use Rattle.decision_log.specs.Log.Sound.{is_sound}
 use Rattle.recent.specs.Recent.{recent_fault}
 use native.Mathlib.Omega.{arith}
 use Rattle.recent.proofs.recent_fault.Statement.{statement}

@@ -4,9 +4,9 @@ use Rattle.std.proofs.Common.{le-ltb, ltb-false}
 use Rattle.refusals.specs.Refusals.{◌gives◌, none, bad_log, no_room}
 use Rattle.refusals.specs.Checks.{none_found}
 use Rattle.decisions.specs.Decision.{decision_width}
-use Rattle.log.specs.declared.DecisionLog.{DecisionLog}
-use Rattle.log.specs.Log.{log_bad, kept_words}
-use Rattle.log.specs.Log.Sound.{Sound, is_sound}
+use Rattle.decision_log.specs.declared.DecisionLog.{DecisionLog}
+use Rattle.decision_log.specs.Log.{log_bad, kept_words}
+use Rattle.decision_log.specs.Log.Sound.{Sound, is_sound}
 use Rattle.recent.specs.Recent.{recent_fault, recent_of, recent_out}
 
 pub recent_sound : (g : DecisionLog) (n room : ℕ) → recent_fault g n room ≡ none → Sound g n × (decision_width * g.count ≤ room)

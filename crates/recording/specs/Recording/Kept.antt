@@ -3,9 +3,9 @@ use Rattle.std.specs.Prelude.{◌≡◌, refl, ℕ, zero, suc, ◌+◌, ◌-◌,
 use Rattle.std.proofs.Common.{ap, ap₂, arith, zero-add, add-zero, add-suc, add-one, ltb-true, ltb-false, append_assoc, append-nil, drop_at}
 use Rattle.std.proofs.lemmas.List.Edits.{sets}
 use Rattle.decisions.specs.Decision.{decision_width}
-use Rattle.log.specs.declared.DecisionLog.{DecisionLog}
-use Rattle.log.specs.Log.{max_kept, log_words, kept_place, place_words, kept_from}
-use Rattle.log.specs.Log.Kept.{place-length, kept_cons}
+use Rattle.decision_log.specs.declared.DecisionLog.{DecisionLog}
+use Rattle.decision_log.specs.Log.{max_kept, log_words, kept_place, place_words, kept_from}
+use Rattle.decision_log.specs.Log.Kept.{place-length, kept_cons}
 use Rattle.recording.specs.Recording.Store.{sets_drop, sets_before, sets_here}
 
 -- a place's words after a store to a place

@@ -10,10 +10,10 @@ use Rattle.std.proofs.Math.Seq.{length-sets, drop-append-le, drop_at, drop-cons,
 use Rattle.refusals.specs.Refusals.{none}
 use Rattle.decisions.specs.declared.SchedulingDecision.{SchedulingDecision}
 use Rattle.decisions.specs.Decision.{decision_width, decision_words}
-use Rattle.log.specs.Log.{max_kept, log_words, log_bad, kept_place, kept_from, kept_words}
+use Rattle.decision_log.specs.Log.{max_kept, log_words, log_bad, kept_place, kept_from, kept_words}
 use Rattle.next_log.specs.Next.{next_place, next_sequence}
 use Rattle.recording.specs.Recording.{numbered, record_fault, recorded_of, recorded_words}
-use Rattle.log.specs.Log.Sound.{sound-good}
+use Rattle.decision_log.specs.Log.Sound.{sound-good}
 use Rattle.recording.specs.Recording.Kept.{kept-grown, kept_replaced}
 use Rattle.recording.specs.Recording.Newest.{words-length}
 use Rattle.recording.specs.Recording.Run.{Logged, started, added, run, refusals, numbered_from, last_of, joined}

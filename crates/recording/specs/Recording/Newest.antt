@@ -12,11 +12,11 @@ use Rattle.std.proofs.Math.Seq.{length-sets}
 use Rattle.refusals.specs.Refusals.{none, bad_log}
 use Rattle.decisions.specs.declared.SchedulingDecision.{SchedulingDecision}
 use Rattle.decisions.specs.Decision.{decision_width, decision_words}
-use Rattle.log.specs.declared.DecisionLog.{DecisionLog}
-use Rattle.log.specs.Log.{max_kept, log_bad, kept_place, kept_from, kept_words}
+use Rattle.decision_log.specs.declared.DecisionLog.{DecisionLog}
+use Rattle.decision_log.specs.Log.{max_kept, log_bad, kept_place, kept_from, kept_words}
 use Rattle.next_log.specs.Next.{next_place, next_sequence}
 use Rattle.recording.specs.Recording.{numbered, record_fault, recorded_of, recorded_words}
-use Rattle.log.specs.Log.Sound.{Sound, is_sound, sound-good}
+use Rattle.decision_log.specs.Log.Sound.{Sound, is_sound, sound-good}
 use Rattle.recording.specs.Recording.Kept.{kept-grown, kept_replaced}
 
 module _ (g : DecisionLog) (n : ℕ) where

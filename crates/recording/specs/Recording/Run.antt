@@ -1,9 +1,9 @@
 -- Decisions added one by one, and the last of them with their sequences. Definitions only.
 use Rattle.std.specs.Prelude.{ℕ, suc, ◌-◌, ◌^◌, min, List, [], ◌∷◌, ◌++◌, length, drop}
 use Rattle.decisions.specs.declared.SchedulingDecision.{SchedulingDecision}
-use Rattle.log.specs.declared.DecisionLog.{DecisionLog}
+use Rattle.decision_log.specs.declared.DecisionLog.{DecisionLog}
 use Rattle.decisions.specs.Decision.{decision_words}
-use Rattle.log.specs.Log.{empty_log}
+use Rattle.decision_log.specs.Log.{empty_log}
 use Rattle.recording.specs.Recording.{numbered, recorded_of, recorded_words}
 
 -- a log beside its words

@@ -2,9 +2,9 @@
 use Rattle.std.specs.Prelude.{◌≡◌, ℕ, [], ◌∷◌}
 use Rattle.refusals.specs.Refusals.{◌gives◌, none, bad_log}
 use Rattle.refusals.specs.Checks.{none_found}
-use Rattle.log.specs.declared.DecisionLog.{DecisionLog}
-use Rattle.log.specs.Log.{log_bad}
-use Rattle.log.specs.Log.Sound.{Sound, is_sound}
+use Rattle.decision_log.specs.declared.DecisionLog.{DecisionLog}
+use Rattle.decision_log.specs.Log.{log_bad}
+use Rattle.decision_log.specs.Log.Sound.{Sound, is_sound}
 use Rattle.recording.specs.Recording.{record_fault}
 
 pub record_sound : (g : DecisionLog) (n : ℕ) → record_fault g n ≡ none → Sound g n

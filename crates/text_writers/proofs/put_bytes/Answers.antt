@@ -8,10 +8,10 @@ loop-i-init c = (omega arith, refl, rw add-zero)
 
 pub loop-i-preserved : goal.loop-i-preserved
 loop-i-preserved c = (
-      omega arith,
-      c.put_byte.auto.0 ∙ c.loop-i.invariant.1,
-      c.loop-i.invariant.2 ∙ sets_more _ _ _ _ c.loop-i-test.true ∙ rw (← c.put_byte.ensures),
-    )
+  omega arith,
+  c.put_byte.auto.0 ∙ c.loop-i.invariant.1,
+  c.loop-i.invariant.2 ∙ sets_more _ _ _ _ c.loop-i-test.true ∙ rw (← c.put_byte.ensures),
+)
 
 pub returns : goal.returns
 returns c = sym (c.loop-i.invariant.2 ∙ sets_end _ _ _ _ c.loop-i-test.false)

@@ -2,7 +2,7 @@
 pub mod Sound
 pub mod Kept
 use Rattle.std.specs.Prelude.{ℕ, zero, suc, ◌+◌, ◌*◌, ◌%◌, Bool, not, ◌||◌, List, [], ◌++◌, take, drop, leb, ltb, eqb}
-use Rattle.log.specs.declared.DecisionLog.{DecisionLog}
+use Rattle.decision_log.specs.declared.DecisionLog.{DecisionLog}
 use Rattle.decisions.specs.Decision.{decision_width}
 
 abbrev pub empty_log : DecisionLog

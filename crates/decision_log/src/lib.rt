@@ -2,7 +2,7 @@
 #![tactic(auto)]
 
 ghost use Rattle.std.specs.Prelude.{◌≡◌};
-ghost use Rattle.log.specs.Log.{empty_log, log_bad, kept_place};
+ghost use Rattle.decision_log.specs.Log.{empty_log, log_bad, kept_place};
 
 use decisions::DECISION_WIDTH;
 
@@ -10,7 +10,7 @@ pub const MAX_DECISIONS_KEPT: u64 = 4096;
 
 pub const LOG_WORDS: usize = MAX_DECISIONS_KEPT as usize * DECISION_WIDTH;
 
-#[derive(Drop)]
+#[derive(Clone, Copy)]
 pub struct DecisionLog {
     pub first: u64,
     pub count: u64,

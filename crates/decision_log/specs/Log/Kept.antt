@@ -7,8 +7,8 @@ use native.Mathlib.Omega.{arith}
 use Rattle.std.proofs.Math.ListN.{length-append, get_or-append}
 use Rattle.std.proofs.Math.Seq.{take-add, drop-drop}
 use Rattle.decisions.specs.Decision.{decision_width}
-use Rattle.log.specs.declared.DecisionLog.{DecisionLog}
-use Rattle.log.specs.Log.{max_kept, log_words, kept_place, place_words, kept_from, kept_words}
+use Rattle.decision_log.specs.declared.DecisionLog.{DecisionLog}
+use Rattle.decision_log.specs.Log.{max_kept, log_words, kept_place, place_words, kept_from, kept_words}
 
 pub place-length : (ws : List ℕ) (p : ℕ) → length ws ≡ log_words → p < max_kept → length (place_words ws p) ≡ decision_width
 place-length ws p e h = length-take-le decision_width (drop (decision_width * p) ws) (simp length-drop (omega arith))

@@ -1,7 +1,7 @@
 -- 01 (a), of each public call here: two outcomes that its contract allows are the same.
 use mathlib.Core.Path.{◌≡◌, sym, ◌∙◌}
-use Rattle.log.proofs.empty.Reads as empty
-use Rattle.log.proofs.kept_place.Reads as kept-place
+use Rattle.decision_log.proofs.empty.Reads as empty
+use Rattle.decision_log.proofs.kept_place.Reads as kept-place
 
 pub empty_decides : (κs : _) (a : _) (one other : _) (e f : _) → empty.Post κs a one e → empty.Post κs a other f → one ≡ other
 empty_decides κs a one other e f p q = p ∙ sym q

@@ -1,8 +1,8 @@
 -- `log::log_bad` meets its contract.
-use Rattle.log.specs.Log.{log_bad}
+use Rattle.decision_log.specs.Log.{log_bad}
 use borrow.Author.Tests.{le-leb, lt-leb, eq-eqb, ne_eqb}
-use Rattle.log.proofs.log_bad.Statement.{statement}
-use Rattle.log.proofs.log_bad.Tie as tie
+use Rattle.decision_log.proofs.log_bad.Statement.{statement}
+use Rattle.decision_log.proofs.log_bad.Tie as tie
 
 returns : tie.Need-returns
 unfolding log_bad

@@ -2,9 +2,9 @@
 use Rattle.std.specs.Prelude.{◌≡◌, ℕ, ◌≤◌, ◌<◌, false}
 use Rattle.std.proofs.Common.{eq-eqb, le-ltb, ltb-false, leb-false, eqb-true}
 use Rattle.std.proofs.lemmas.Bool.{lt-leb, not-false}
-use Rattle.log.specs.declared.DecisionLog.{DecisionLog}
+use Rattle.decision_log.specs.declared.DecisionLog.{DecisionLog}
 use Rattle.lists.specs.Tests.{neither}
-use Rattle.log.specs.Log.{max_kept, log_words, log_bad}
+use Rattle.decision_log.specs.Log.{max_kept, log_words, log_bad}
 
 pub record Sound (g : DecisionLog) (n : ℕ) : Type 0 where
   pub long : n ≡ log_words
