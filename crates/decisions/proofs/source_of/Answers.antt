@@ -1,0 +1,20 @@
+-- `decisions::source_of` meets its contract.
+use Rattle.std.proofs.Common.{ne_eqb}
+use Rattle.decisions.specs.Decision.{source_from}
+use Rattle.decisions.proofs.source_of.Goals as goal
+
+pub returns-in-0 : goal.returns-in-0
+unfolding source_from
+returns-in-0 c = simp c.in-0.is
+
+pub returns-in-1 : goal.returns-in-1
+unfolding source_from
+returns-in-1 c = simp c.in-1.is
+
+pub returns-in-2 : goal.returns-in-2
+unfolding source_from
+returns-in-2 c = simp c.in-2.is
+
+pub returns-in_default : goal.returns-in_default
+unfolding source_from
+returns-in_default c = simp (ne_eqb _ _ c.in_default.rest.0.0.1, ne_eqb _ _ c.in_default.rest.0.1, ne_eqb _ _ c.in_default.rest.1)
