@@ -1,5 +1,5 @@
 -- Records of any width as functions of their words: which word of the list a record's word is.
-use Rattle.std.specs.Prelude.{ℕ, suc, ◌+◌, ◌*◌, ◌/◌, ◌≤◌, ◌<◌, ◌≡◌, refl, Bool, cond, List, ltb, length, get_or}
+use Rattle.std.specs.Prelude.{ℕ, suc, ◌+◌, ◌*◌, ◌/◌, ◌<◌, ◌≡◌, refl, Bool, cond, List, ltb, length, get_or}
 use Rattle.std.proofs.Common.{le-div_iff_mul-le, suc-mul, arith, sym, ltb-true, ltb-false}
 use Rattle.std.proofs.Math.Bool.{true, false}
 use Rattle.lists.specs.Records.{records_of, records_at, records_past}

@@ -1,5 +1,5 @@
 -- `decisions::kind_of` meets its contract.
-use Rattle.std.proofs.Common.{ne_eqb}
+use Rattle.std.proofs.Common.{◌≢◌, ne_eqb, arith}
 use Rattle.decisions.specs.Decision.{kind_from}
 use Rattle.decisions.proofs.kind_of.Goals as goal
 
@@ -17,4 +17,8 @@ returns-in-2 c = simp c.in-2.is
 
 pub returns-in_default : goal.returns-in_default
 unfolding kind_from
-returns-in_default c = simp (ne_eqb _ _ c.in_default.rest.0.0.1, ne_eqb _ _ c.in_default.rest.0.1, ne_eqb _ _ c.in_default.rest.1)
+returns-in_default c =
+    let zero : c.args.kind ≢ 0 = omega arith in
+    let one : c.args.kind ≢ 1 = omega arith in
+    let two : c.args.kind ≢ 2 = omega arith in
+    simp (ne_eqb _ _ zero, ne_eqb _ _ one, ne_eqb _ _ two)

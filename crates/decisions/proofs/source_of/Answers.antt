@@ -1,5 +1,5 @@
 -- `decisions::source_of` meets its contract.
-use Rattle.std.proofs.Common.{ne_eqb}
+use Rattle.std.proofs.Common.{◌≢◌, ne_eqb, arith}
 use Rattle.decisions.specs.Decision.{source_from}
 use Rattle.decisions.proofs.source_of.Goals as goal
 
@@ -17,4 +17,8 @@ returns-in-2 c = simp c.in-2.is
 
 pub returns-in_default : goal.returns-in_default
 unfolding source_from
-returns-in_default c = simp (ne_eqb _ _ c.in_default.rest.0.0.1, ne_eqb _ _ c.in_default.rest.0.1, ne_eqb _ _ c.in_default.rest.1)
+returns-in_default c =
+    let zero : c.args.n ≢ 0 = omega arith in
+    let one : c.args.n ≢ 1 = omega arith in
+    let two : c.args.n ≢ 2 = omega arith in
+    simp (ne_eqb _ _ zero, ne_eqb _ _ one, ne_eqb _ _ two)

@@ -1,6 +1,6 @@
 -- `decisions::to_words` meets its contract.
 use Rattle.std.proofs.Common.{◌≡◌, [], ◌∷◌, ℕ}
-use lib.Ieee.{binary64, toBits}
+use lib.Ieee.{binary64, to_bits}
 use Rattle.kinds.specs.Numbers.{dominant_number, tier_number, kind_number, kind_level, kind_length}
 use Rattle.decisions.specs.declared.SchedulingDecision.{SchedulingDecision}
 use Rattle.decisions.specs.Decision.{decision_words}
@@ -8,8 +8,8 @@ use Rattle.decisions.proofs.to_words.Goals as goal
 
 -- by the words that are worked out apart
 in_parts : (d : SchedulingDecision) {a b c e f g h i j k l : ℕ}
-    → a ≡ toBits binary64 d.pressure.l0 → b ≡ toBits binary64 d.pressure.deep_debt → c ≡ toBits binary64 d.pressure.read → e ≡ dominant_number d.dominant → f ≡ tier_number d.tier
-    → g ≡ kind_number d.chosen → h ≡ kind_level d.chosen → i ≡ kind_length d.chosen → j ≡ toBits binary64 d.l0_relief → k ≡ toBits binary64 d.debt_relief → l ≡ toBits binary64 d.read_relief
+    → a ≡ to_bits binary64 d.pressure.l0 → b ≡ to_bits binary64 d.pressure.deep_debt → c ≡ to_bits binary64 d.pressure.read → e ≡ dominant_number d.dominant → f ≡ tier_number d.tier
+    → g ≡ kind_number d.chosen → h ≡ kind_level d.chosen → i ≡ kind_length d.chosen → j ≡ to_bits binary64 d.l0_relief → k ≡ to_bits binary64 d.debt_relief → l ≡ to_bits binary64 d.read_relief
     → d.sequence ∷ a ∷ b ∷ c ∷ e ∷ f ∷ d.candidates_considered ∷ g ∷ h ∷ i ∷ d.predicted_rewrite_bytes ∷ j ∷ k ∷ l ∷ [] ≡ decision_words d
 unfolding decision_words
 in_parts d a b c e f g h i j k l = rw (a, b, c, e, f, g, h, i, j, k, l)

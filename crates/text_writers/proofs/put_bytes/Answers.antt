@@ -1,5 +1,5 @@
 -- `text_writers::put_bytes` meets its contract.
-use Rattle.std.proofs.Common.{refl, sym, ◌∙◌, ◌-◌, add-zero, arith}
+use Rattle.std.proofs.Common.{refl, sym, ◌∙◌, add-zero, arith}
 use Rattle.lists.specs.Writes.{sets_more, sets_end}
 use Rattle.text_writers.proofs.put_bytes.Goals as goal
 
@@ -9,7 +9,7 @@ loop-i-init c = (omega arith, refl, rw add-zero)
 pub loop-i-preserved : goal.loop-i-preserved
 loop-i-preserved c = (
   omega arith,
-  c.put_byte.auto.0 ∙ c.loop-i.invariant.1,
+  c.put_byte.auto.out ∙ c.loop-i.invariant.1,
   c.loop-i.invariant.2 ∙ sets_more _ _ _ _ c.loop-i-test.true ∙ rw (← c.put_byte.ensures),
 )
 

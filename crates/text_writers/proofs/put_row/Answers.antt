@@ -1,5 +1,5 @@
 -- `text_writers::put_row` meets its contract. What is left is the numbers from place i on.
-use Rattle.std.proofs.Common.{◌≡◌, sym, ◌∙◌, ◌-◌, ◌≤◌, add-zero, add_assoc, arith, length, take, length-take, drop_of_length-le, get_or-take}
+use Rattle.std.proofs.Common.{◌≡◌, sym, ◌∙◌, ◌≤◌, add-zero, add_assoc, arith, length, take, length-take, drop_of_length-le, get_or-take}
 use Rattle.lists.specs.Writes.{filled-clip, fill_start, fill-part, fill_end}
 use Rattle.text_writers.specs.Rows.{row_of}
 use Rattle.text_writers.specs.Steps.{ended-few, row_more}
