@@ -1,5 +1,5 @@
 -- `reliefs::level_bytes` meets its contract.
-use Rattle.std.proofs.Common.{Bool, eqb, eq-eqb, ne_eqb, ℕ, ◌+◌, ◌-◌, ◌≡◌, ◌∙◌, arith}
+use Rattle.std.proofs.Common.{Bool, eqb, eq-eqb, ne_eqb, ℕ, ◌+◌, ◌≡◌, ◌∙◌, arith}
 use Rattle.lists.specs.Filter.{filter-keep, filter_skip, filter-end}
 use Rattle.counts.specs.Counts.{saturating_add}
 use Rattle.reliefs.specs.Reliefs.{bytes_of}
