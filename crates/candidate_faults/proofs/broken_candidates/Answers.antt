@@ -1,5 +1,5 @@
 -- `candidate_faults::broken_candidates` meets its contract.
-use Rattle.std.proofs.Common.{◌-◌, arith}
+use Rattle.std.proofs.Common.{arith}
 use Rattle.lists.specs.Any.{test-start, test-next, test-end}
 use Rattle.candidate_records.specs.Candidates.{no_candidate}
 use Rattle.candidate_faults.proofs.broken_candidates.Goals as goal

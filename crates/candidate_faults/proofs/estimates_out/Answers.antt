@@ -1,5 +1,5 @@
 -- `candidate_faults::estimates_out` meets its contract.
-use Rattle.std.proofs.Common.{◌-◌, arith}
+use Rattle.std.proofs.Common.{arith}
 use Rattle.lists.specs.Any.{test-start, test-next, test-end}
 use Rattle.candidate_records.specs.Candidates.{no_estimate}
 use Rattle.candidate_faults.specs.Candidates.{estimate_out}

@@ -1,5 +1,5 @@
 -- `candidate_faults::numbers_out` meets its contract.
-use Rattle.std.proofs.Common.{◌-◌, arith}
+use Rattle.std.proofs.Common.{arith}
 use Rattle.lists.specs.Any.{test-start, test-next, test-end}
 use Rattle.candidate_records.specs.Candidates.{no_candidate}
 use Rattle.candidate_faults.proofs.numbers_out.Goals as goal

@@ -1,5 +1,5 @@
 -- `candidate_faults::too_many_numbers` meets its contract.
-use Rattle.std.proofs.Common.{◌-◌, arith}
+use Rattle.std.proofs.Common.{arith}
 use Rattle.lists.specs.Any.{test-start, test-next, test-end}
 use Rattle.candidate_records.specs.Candidates.{no_candidate}
 use Rattle.candidate_faults.proofs.too_many_numbers.Goals as goal
