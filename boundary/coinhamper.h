@@ -1,4 +1,4 @@
-/* The calls of libcoinhamper.a, for C and C++ on x86-64 Linux. Built by: rt staticlib coinhamper
+/* The calls of libcoinhamper.a, for C and C++ on x86-64 Linux. Built by: rt lib in crates/coinhamper_c
  *
  * Every call answers its refusal, 0 for none, unless its comment says that it answers a number. A refused call changes nothing that it was lent; an
  * accepted one writes its answer to the front of what it was lent for it, and leaves the rest. With several faults the first that the call's comment
