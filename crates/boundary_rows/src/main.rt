@@ -7,9 +7,11 @@ mod merges;
 mod numbers;
 mod told;
 
-fn main() {
-    numbers::rows();
-    governed::rows();
-    merges::rows();
-    logged::rows();
+use std::io::Result;
+
+fn main(rt: HostRuntime) -> Result<()> {
+    numbers::rows(&rt)?;
+    governed::rows(&rt)?;
+    merges::rows(&rt)?;
+    logged::rows(&rt)
 }

@@ -1,6 +1,7 @@
 // README's worked run, from tables to a decision. A line has the refusal and two words of the answer, unless it says otherwise.
 use crate::told::{told, word_at};
 use coinhamper::merges;
+use std::io::Result;
 
 fn tables() -> [u64; 28] {
     [
@@ -13,7 +14,7 @@ fn over() -> [u64; 2] {
 }
 
 // The refusal and both counts; then the last candidate's kind and two numbers.
-fn generate(c: &mut [u64], n: &mut [u64]) {
+fn generate(rt: &impl Print, c: &mut [u64], n: &mut [u64]) -> Result<()> {
     let t = tables();
     let o = over();
     let mut count: usize = 77;
@@ -29,70 +30,74 @@ fn generate(c: &mut [u64], n: &mut [u64]) {
         &mut numbers,
     );
     told(
+        rt,
         b"generate_candidates",
         refusal,
         count as u64,
         numbers as u64,
-    );
+    )?;
     told(
+        rt,
         b"generate_candidates",
         word_at(&*c, 18),
         word_at(&*n, 3),
         word_at(&*n, 8),
-    );
+    )
 }
 
-fn estimate(next: u64, c: &[u64], n: &[u64], e: &mut [u64]) {
+fn estimate(rt: &impl Print, next: u64, c: &[u64], n: &[u64], e: &mut [u64]) -> Result<()> {
     let t = tables();
     let o = over();
     let refusal = merges::coinhamper_estimate_candidates(&t, next, &o, c, n, &mut *e);
     told(
+        rt,
         b"estimate_candidates",
         refusal,
         word_at(&*e, 11),
         word_at(&*e, 34),
-    );
+    )
 }
 
-fn pick(flag: u64, c: &[u64], e: &[u64], p: &mut [u64]) {
+fn pick(rt: &impl Print, flag: u64, c: &[u64], e: &[u64], p: &mut [u64]) -> Result<()> {
     let refusal = merges::coinhamper_pick_best_cause_aware(
         0.0, 1.0, 0.0, flag, 0, 0, c, e, &mut *p,
     );
     told(
+        rt,
         b"pick_best_cause_aware",
         refusal,
         word_at(&*p, 1),
         word_at(&*p, 5),
-    );
+    )
 }
 
-fn decide(p: &[u64], c: &[u64], e: &[u64]) {
+fn decide(rt: &impl Print, p: &[u64], c: &[u64], e: &[u64]) -> Result<()> {
     let mut d: [u64; 14] = [7; 14];
     let refusal = merges::coinhamper_scheduling_decision(0.0, 1.0, 0.0, p, c, e, &mut d);
-    told(b"scheduling_decision", refusal, d[7], d[12]);
+    told(rt, b"scheduling_decision", refusal, d[7], d[12])
 }
 
-fn choosing(c: &[u64], e: &[u64]) {
+fn choosing(rt: &impl Print, c: &[u64], e: &[u64]) -> Result<()> {
     let mut p: [u64; 6] = [7; 6];
-    pick(2, c, e, &mut p);
-    pick(0, c, e, &mut p);
-    decide(&p, c, e);
+    pick(rt, 2, c, e, &mut p)?;
+    pick(rt, 0, c, e, &mut p)?;
+    decide(rt, &p, c, e)?;
     let few: [u64; 5] = [0; 5];
-    decide(&few, c, e);
+    decide(rt, &few, c, e)
 }
 
-fn estimating(c: &[u64], n: &[u64]) {
+fn estimating(rt: &impl Print, c: &[u64], n: &[u64]) -> Result<()> {
     let mut e: [u64; 36] = [0; 36];
-    estimate(9007199254740993, c, n, &mut e);
-    estimate(10, c, n, &mut e);
-    choosing(c, &e);
+    estimate(rt, 9007199254740993, c, n, &mut e)?;
+    estimate(rt, 10, c, n, &mut e)?;
+    choosing(rt, c, &e)
 }
 
-pub(crate) fn rows() {
+pub(crate) fn rows(rt: &impl Print) -> Result<()> {
     let mut few: [u64; 23] = [0; 23];
     let mut c: [u64; 24] = [0; 24];
     let mut n: [u64; 9] = [0; 9];
-    generate(&mut few, &mut n);
-    generate(&mut c, &mut n);
-    estimating(&c, &n);
+    generate(rt, &mut few, &mut n)?;
+    generate(rt, &mut c, &mut n)?;
+    estimating(rt, &c, &n)
 }

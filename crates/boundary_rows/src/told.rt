@@ -1,13 +1,9 @@
 // A line of the answer, and what stands at a place of a buffer, 0 past its end.
-pub(crate) fn told(name: &[u8], a: u64, b: u64, c: u64) {
-    io::write_all(1, name);
-    io::write_all(1, b" ");
-    io::print_decimal(1, a);
-    io::write_all(1, b" ");
-    io::print_decimal(1, b);
-    io::write_all(1, b" ");
-    io::print_decimal(1, c);
-    io::write_all(1, b"\n");
+use std::io::Result;
+
+pub(crate) fn told(rt: &impl Print, name: &[u8], a: u64, b: u64, c: u64) -> Result<()> {
+    rt.write_all(name)?;
+    println!(rt; " {a} {b} {c}")
 }
 
 pub(crate) fn word_at(words: &[u64], place: usize) -> u64 {

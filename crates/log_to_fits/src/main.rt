@@ -1,27 +1,55 @@
 // Reads the log's text from standard input to its end, and writes its table to standard output; of a text that is refused it writes the refused lines to standard error, and nothing else.
 #![tactic(auto)]
 
-use libc::{STDERR_FILENO, STDIN_FILENO, STDOUT_FILENO};
+ghost use Rattle.std.specs.Io.{ReadsAtMost};
 
-fn report(text: &[u8], out: &mut [u8]) {
-    let length = log_text::refused_lines(text, out).length;
-    io::write_all(STDERR_FILENO, &out[..length]);
+use std::io::{Read, Result};
+
+// Reads until the buffer is full or the input ends, and tells how many bytes were put at its start.
+fn read_full(input: &mut impl Read, buf: &mut [u8]) -> Result<usize>
+    ensures { ReadsAtMost result buf.new }
+{
+    let mut done = 0;
+    while done < buf.len() {
+        let n = input.read(&mut buf[done..])?;
+        if n == 0 {
+            break;
+        }
+        done += n;
+    }
+    Ok(done)
 }
 
-fn answer(text: &[u8], words: &mut [u64], out: &mut [u8]) {
+fn report(stderr: &impl Print, text: &[u8], out: &mut [u8]) -> Result<()> {
+    let length = log_text::refused_lines(text, out).length;
+    stderr.write_all(&out[..length])
+}
+
+fn answer(
+    stdout: &impl Print,
+    stderr: &impl Print,
+    text: &[u8],
+    words: &mut [u64],
+    out: &mut [u8],
+) -> Result<()> {
     let read = log_text::read_log(text, words);
     if read.refusal != refusals::NONE {
-        report(text, out);
-        return;
+        return report(stderr, text, out);
     }
     let length = fits::write_fits(read.log, words, out).length;
-    io::write_all(STDOUT_FILENO, &out[..length]);
+    stdout.write_all(&out[..length])
 }
 
-fn main() {
+fn main(rt: HostRuntime) -> Result<()> {
     let mut text = log_text::text_room();
     let mut words = log_text::word_room();
     let mut out = fits::file_room();
-    let length = io::read_full(STDIN_FILENO, &mut text);
-    answer(&text[..length], &mut words, &mut out);
+    let length = read_full(&mut rt.stdin(), &mut text)?;
+    answer(
+        &rt.stdout(),
+        &rt.stderr(),
+        &text[..length],
+        &mut words,
+        &mut out,
+    )
 }

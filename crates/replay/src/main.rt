@@ -1,17 +1,34 @@
 // Reads standard input to its end and writes what the library makes of it.
 #![tactic(auto)]
 
-use libc::{STDIN_FILENO, STDOUT_FILENO};
+ghost use Rattle.std.specs.Io.{ReadsAtMost};
 
-fn answer(text: &[u8], out: &mut [u8]) {
-    let replayed = replay_lines::run::replay(text, out);
-    let length = replayed.length;
-    io::write_all(STDOUT_FILENO, &out[..length]);
+use std::io::{Read, Result};
+
+// Reads until the buffer is full or the input ends, and tells how many bytes were put at its start.
+fn read_full(input: &mut impl Read, buf: &mut [u8]) -> Result<usize>
+    ensures { ReadsAtMost result buf.new }
+{
+    let mut done = 0;
+    while done < buf.len() {
+        let n = input.read(&mut buf[done..])?;
+        if n == 0 {
+            break;
+        }
+        done += n;
+    }
+    Ok(done)
 }
 
-fn main() {
+fn answer(rt: &impl Print, text: &[u8], out: &mut [u8]) -> Result<()> {
+    let replayed = replay_lines::run::replay(text, out);
+    let length = replayed.length;
+    rt.write_all(&out[..length])
+}
+
+fn main(rt: HostRuntime) -> Result<()> {
     let mut text = replay_lines::run::text_room();
     let mut out = replay_lines::run::output_room();
-    let length = io::read_full(STDIN_FILENO, &mut text);
-    answer(&text[..length], &mut out);
+    let length = read_full(&mut rt.stdin(), &mut text)?;
+    answer(&rt, &text[..length], &mut out)
 }

@@ -6,6 +6,7 @@ use rows_state::arithmetic;
 use rows_tables::placed;
 use rows_words::words::{BYTES, SHORT, WORDS, word};
 use rows_words::{shape, words};
+use std::io::{Read, Result};
 
 const TEXT: usize = 1048576;
 
@@ -75,11 +76,12 @@ fn answered(line: &[u8], args: &mut [u64; WORDS], told: &mut [u64; WORDS]) -> u6
 
 // Answers the whole lines, and tells where the line that has no end yet starts.
 fn answer_lines(
+    rt: &impl Print,
     text: &[u8],
     args: &mut [u64; WORDS],
     told: &mut [u64; WORDS],
     out: &mut [u8; OUT],
-) -> usize {
+) -> Result<usize> {
     let mut start = 0;
     let mut at = 0;
     while start < text.len() {
@@ -88,11 +90,11 @@ fn answer_lines(
             break;
         }
         let shape = answered(words::cut(text, start, end), args, told);
-        at = rows_answers::line(out, at, shape, told);
+        at = rows_answers::line(rt, out, at, shape, told)?;
         start = end + 1;
     }
-    rows_answers::flush(out, at);
-    start
+    rows_answers::flush(rt, out, at)?;
+    Ok(start)
 }
 
 // Moves what stands from a place up to an end to the front, and tells where it then ends. Of a line that is too long only so much is kept that it still is.
@@ -109,46 +111,46 @@ fn shift(text: &mut [u8; TEXT], from: usize, end: usize) -> usize {
 }
 
 // Answers what stands before an end; what is kept of it is then at the front.
-fn answer_text(text: &mut [u8; TEXT], end: usize) -> usize {
+fn answer_text(rt: &impl Print, text: &mut [u8; TEXT], end: usize) -> Result<usize> {
     let mut args = [0u64; WORDS];
     let mut told = [0u64; WORDS];
     let mut out = [0u8; OUT];
-    let start = answer_lines(words::cut(text, 0, end), &mut args, &mut told, &mut out);
-    shift(text, start, end)
+    let start = answer_lines(rt, words::cut(text, 0, end), &mut args, &mut told, &mut out)?;
+    Ok(shift(text, start, end))
 }
 
 // Reads once behind what is kept, and tells where the text then ends.
-fn read_behind(text: &mut [u8], kept: usize) -> usize {
+fn read_behind(input: &mut impl Read, text: &mut [u8], kept: usize) -> Result<usize> {
     if text.len() < kept {
-        return kept;
+        return Ok(kept);
     }
-    let room = &mut text[kept..];
-    let got = libc::read(0, room);
-    kept + io::count(got, room)
+    let got = input.read(&mut text[kept..])?;
+    Ok(kept + got)
 }
 
-fn run(text: &mut [u8; TEXT]) {
+fn run(rt: &impl Print, input: &mut impl Read, text: &mut [u8; TEXT]) -> Result<()> {
     let mut kept = 0;
     // A proved loop has to end; no run uses the turns up.
     let mut turns = u64::MAX;
     while 0 < turns {
         turns -= 1;
-        let end = read_behind(text, kept);
+        let end = read_behind(input, text, kept)?;
         if end <= kept {
             break;
         }
-        kept = answer_text(text, end);
+        kept = answer_text(rt, text, end)?;
     }
     // The last line may lack its end.
     if 0 < kept {
         if kept < TEXT {
             text[kept] = b'\n';
-            answer_text(text, kept + 1);
+            answer_text(rt, text, kept + 1)?;
         }
     }
+    Ok(())
 }
 
-fn main() {
+fn main(rt: HostRuntime) -> Result<()> {
     let mut text = [0u8; TEXT];
-    run(&mut text);
+    run(&rt, &mut rt.stdin(), &mut text)
 }

@@ -10,4 +10,4 @@ pub returns-then-s-eq18446744073709551615 : goal.returns-then-s-eq18446744073709
 returns-then-s-eq18446744073709551615 c = simp (← c.is_large.ensures, ← c.is_large-2.ensures, c.if-is_large.false, full_is c.args.s.counters.predicted_actual_samples (omega arith), eq-eqb _ _ c.if-s-eq18446744073709551615.true)
 
 pub returns : goal.returns
-returns c = simp (← c.is_large.ensures, ← c.is_large-2.ensures, c.if-is_large.false, full_is c.args.s.counters.predicted_actual_samples (omega (arith, c.struct_known-1.given.1.1.1.1.1.1.0)), ne_eqb _ _ c.if-s-eq18446744073709551615.false)
+returns c = simp (← c.is_large.ensures, ← c.is_large-2.ensures, c.if-is_large.false, full_is c.args.s.counters.predicted_actual_samples (omega arith), ne_eqb _ _ c.if-s-eq18446744073709551615.false)

@@ -1,25 +1,21 @@
 -- `report::record_candidate_chosen` meets its contract.
-use Rattle.std.proofs.Common.{[], ◌∷◌, ◌≡◌, refl, inl, inr, arith}
-use Rattle.kinds.specs.contracts.kind.CandidateKind as kinds
+use Rattle.std.proofs.Common.{◌≡◌, ℕ, refl}
 use Rattle.kinds.specs.declared.kind.CandidateKind.TheVariants.{L0, LevelBatch, TrivialMove}
 use Rattle.kinds.specs.declared.kind.CandidateKind.{CandidateKind}
 use Rattle.state.specs.declared.GovernorState.{GovernorState}
-use denote.Enum.Declared.{tag_of}
-use types.Run.{OneOf}
 use Rattle.report.specs.Counters.{chosen_of}
 use Rattle.report.proofs.record_candidate_chosen.Goals as goal
 
 -- a kind that is no batch leaves the state as it is
-others : (s : GovernorState) (k : CandidateKind) → OneOf (0 ∷ 2 ∷ []) (tag_of kinds.the_type k) → s ≡ chosen_of s k
+others : (s : GovernorState) (k : CandidateKind) → ((level n : ℕ) → k ≡ LevelBatch level n → ⊥) → s ≡ chosen_of s k
 unfolding chosen_of
 others s L0 h = refl
 others s (TrivialMove level) h = refl
-others s (LevelBatch level n) (inl e) = absurd (omega arith)
-others s (LevelBatch level n) (inr e) = absurd (omega arith)
+others s (LevelBatch level n) h = absurd (h level n refl)
 
 pub returns-in-LevelBatch : goal.returns-in-LevelBatch
 unfolding chosen_of
 returns-in-LevelBatch c = simp (c.in-LevelBatch.is, c.saturating_add-count.ensures, c.saturating_add-sum.ensures)
 
 pub returns : goal.returns
-returns c = others c.args.s c.args.kind c.in_default.keys2
+returns c = others c.args.s c.args.kind c.in_default.not-LevelBatch

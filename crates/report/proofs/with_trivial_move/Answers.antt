@@ -9,8 +9,8 @@ unfolding trivial_move_of
 returns-then-s-eq18446744073709551615 c = simp (full_is c.args.s.counters.trivial_moves_performed (omega arith), eq-eqb _ _ c.if-s-eq18446744073709551615.true)
 
 pub overflow_add-moves : goal.overflow_add-moves
-overflow_add-moves c = omega (arith, c.struct_known-1.given.1.1.1.1.1.1.0)
+overflow_add-moves c = omega arith
 
 pub returns : goal.returns
 unfolding trivial_move_of
-returns c = simp (full_is c.args.s.counters.trivial_moves_performed (omega (arith, c.struct_known-1.given.1.1.1.1.1.1.0)), ne_eqb _ _ c.if-s-eq18446744073709551615.false, c.saturating_add-bytes.ensures)
+returns c = simp (full_is c.args.s.counters.trivial_moves_performed (omega arith), ne_eqb _ _ c.if-s-eq18446744073709551615.false, c.saturating_add-bytes.ensures)

@@ -1,8 +1,5 @@
--- `rows_answers::line` is safe and ends: the place of the binary digit falls. Assumes nothing.
+-- `rows_answers::line` is safe and ends: the place of the binary digit falls.
 use Rattle.rows_answers.proofs.line.Given as goal
 
-abbrev pub invariant-loop-left : goal.invariant-loop-left
-invariant-loop-left l = Unit {0}
-
 abbrev pub decreases-loop-left : goal.decreases-loop-left
-decreases-loop-left l = l.left
+decreases-loop-left g l = l.left

@@ -1,9 +1,6 @@
--- `rows_answers::numbers` is safe and ends: each turn writes one number. Assumes nothing.
+-- `rows_answers::numbers` is safe and ends: each turn writes one number.
 use Rattle.std.proofs.Common.{◌-◌, length}
 use Rattle.rows_answers.proofs.numbers.Given as goal
 
-abbrev pub invariant-loop-i : goal.invariant-loop-i
-invariant-loop-i l = Unit {0}
-
 abbrev pub decreases-loop-i : goal.decreases-loop-i
-decreases-loop-i l = length l.list - l.i
+decreases-loop-i g l = length l.list - l.i

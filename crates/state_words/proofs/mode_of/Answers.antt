@@ -1,5 +1,5 @@
 -- `state_words::mode_of` meets its contract.
-use Rattle.std.proofs.Common.{ne_eqb}
+use Rattle.std.proofs.Common.{◌≢◌, arith, ne_eqb}
 use Rattle.state_words.specs.StateWords.{mode_from}
 use Rattle.state_words.proofs.mode_of.Goals as goal
 
@@ -13,4 +13,7 @@ returns-in-1 c = simp c.in-1.is
 
 pub returns-in_default : goal.returns-in_default
 unfolding mode_from
-returns-in_default c = simp (ne_eqb _ _ c.in_default.rest.0.1, ne_eqb _ _ c.in_default.rest.1)
+returns-in_default c =
+    let zero : c.args.n ≢ 0 = omega arith in
+    let one : c.args.n ≢ 1 = omega arith in
+    simp (ne_eqb _ _ zero, ne_eqb _ _ one)

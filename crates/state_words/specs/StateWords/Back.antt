@@ -1,6 +1,6 @@
 -- A state comes back whole from its words, as long as its fields fit their types.
-use Rattle.std.specs.Prelude.{◌≡◌, refl, ℕ, ◌-◌, ◌^◌, ◌≤◌, true, ◌&&◌, List, T, leb}
-use Rattle.std.proofs.Common.{sym, ◌∙◌, le-leb}
+use Rattle.std.specs.Prelude.{◌≡◌, refl, ℕ, ◌-◌, ◌^◌, ◌≤◌, true, T, leb}
+use Rattle.std.proofs.Common.{le-leb}
 use Rattle.std.specs.Float.{binary64}
 use Rattle.std.specs.Float.Ieee.{fits}
 use Rattle.std.specs.Float.Ieee.Bits.{of_bits-to_bits}
@@ -8,7 +8,6 @@ use Rattle.kinds.specs.declared.mode.GovernorMode.{GovernorMode}
 use Rattle.kinds.specs.declared.mode.GovernorMode.TheVariants.{Balanced, ReadProtect, WriteEmergency}
 use Rattle.kinds.specs.declared.focus.FocusLevel.{FocusLevel}
 use Rattle.kinds.specs.declared.focus.FocusLevel.TheVariants.{None as Nothing, Level}
-use Rattle.kinds.specs.declared.focus.FocusState.{FocusState}
 use Rattle.kinds.specs.Numbers.{mode_number}
 use Rattle.state.specs.declared.GovernorState.{GovernorState}
 use Rattle.state_words.specs.StateWords.{focus_good, is_state, mode_from, focus_from, vector_in, signals_in, times_in, counters_in, state_from, state_in, focus_flag, focus_level, state_words}
