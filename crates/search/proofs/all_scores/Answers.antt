@@ -1,5 +1,5 @@
 -- `search::all_scores` meets its contract. What is left of the scores would complete the array.
-use Rattle.std.proofs.Common.{refl, ◌-◌, add-one, arith}
+use Rattle.std.proofs.Common.{refl, add-one, arith}
 use Rattle.candidate_records.specs.Candidates.{estimates_of}
 use Rattle.search.specs.Search.Reading.{scores_more, scores_full, scores_end}
 use Rattle.search.proofs.all_scores.Goals as goal

@@ -1,5 +1,5 @@
 -- `search::first_l0` meets its contract.
-use Rattle.std.proofs.Common.{refl, sym, ◌∙◌, ◌-◌, arith}
+use Rattle.std.proofs.Common.{refl, sym, ◌∙◌, arith}
 use Rattle.candidate_records.specs.Candidates.{candidates_of}
 use Rattle.search.specs.Search.Reading.{l0-here, l0-next, l0-end}
 use Rattle.search.proofs.first_l0.Goals as goal

@@ -14,8 +14,8 @@ pub returns-then-best-lt-MAX_CANDIDATES : goal.returns-then-best-lt-MAX_CANDIDAT
 returns-then-best-lt-MAX_CANDIDATES c = refl
 
 pub returns-else-best-lt-MAX_CANDIDATES : goal.returns-else-best-lt-MAX_CANDIDATES
-returns-else-best-lt-MAX_CANDIDATES c = let a = c.args in rw (get_or-eq_default a.t1 nan {n = a.best} (omega arith)) (below_none _)
+returns-else-best-lt-MAX_CANDIDATES c = let a = c.args in rw (get_or-eq_default a.scores nan {n = a.best} (omega arith)) (below_none _)
 
 pub returns-else-here-lt-MAX_CANDIDATES : goal.returns-else-here-lt-MAX_CANDIDATES
 unfolding lt
-returns-else-here-lt-MAX_CANDIDATES c = let a = c.args in rw (get_or-eq_default a.t1 nan {n = a.here} (omega arith))
+returns-else-here-lt-MAX_CANDIDATES c = let a = c.args in rw (get_or-eq_default a.scores nan {n = a.here} (omega arith))
