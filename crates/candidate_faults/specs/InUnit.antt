@@ -1,7 +1,7 @@
 -- Floats in 0 to 1.
 use Rattle.std.specs.Prelude.{◌≡◌, refl, true, false, ℕ, ◌*◌, T, Float}
 use Rattle.std.proofs.Common.{⊎_elim, arith, le-ltb}
-use Rattle.std.specs.Float.{fin}
+use Rattle.std.specs.Float.{nan, inf, fin}
 use Rattle.std.specs.Float.Ieee.{up, down, le, lt, is_nan, of_bits}
 use Rattle.std.specs.Float.Ieee.Bits.{is_true}
 use Rattle.arith.specs.Floats.{f0, f1, minimum_of}
@@ -33,3 +33,6 @@ cut_unit x low =
 pub plain_low : (k : ℕ) (x : Float) → Plain k x → T (le f0 x)
 unfolding is_nan lt of_bits
 plain_low k (fin false m e) h = not_lt_le f0 (fin false m e) refl refl (le-ltb (m * up e * 1) (0 * down e) (omega arith))
+plain_low k nan h = elim h [ ]
+plain_low k (inf _) h = elim h [ ]
+plain_low k (fin true m e) h = elim h [ ]

@@ -88,6 +88,12 @@ clear-signs a b A B =
 
 pub total_is_lt : (j k : ℕ) (x y : Float) → Plain j x → Plain k y → T (fits binary64 x) → T (fits binary64 y) → total_less x y ≡ lt x y
 unfolding total_less lt
+total_is_lt j k nan y g h p q = elim g [ ]
+total_is_lt j k (inf _) y g h p q = elim g [ ]
+total_is_lt j k (fin true m e) y g h p q = elim g [ ]
+total_is_lt j k (fin false m e) nan g h p q = elim h [ ]
+total_is_lt j k (fin false m e) (inf _) g h p q = elim h [ ]
+total_is_lt j k (fin false m e) (fin true n d) g h p q = elim h [ ]
 total_is_lt j k (fin false m e) (fin false n d) g h p q =
     clear-signs (to_bits binary64 (fin false m e)) (to_bits binary64 (fin false n d)) (plain_lt m e p) (plain_lt n d q) ∙ go (ltb (m * up e * down d) (n * up d * down e)) refl
   where
