@@ -1,7 +1,7 @@
 -- A header (3.3.1, 4.1): cards of 80 bytes, each a keyword and its value in fixed format with no comment, then END, then spaces to the end of a block. Definitions only.
 use Rattle.std.specs.Prelude.{ℕ, ◌-◌, ◌%◌, length, replicate}
 use Prim.Native.String.{String}
-use mathlib.Core.List.{List, [], ◌∷◌, ◌++◌, flat_map}
+use mathlib.Core.List.{List, ◌++◌, flat_map}
 use Rattle.numerals.specs.Numbers.{spelt}
 use Rattle.fits_headers.specs.Text.{ascii, space, left_in, right_in}
 

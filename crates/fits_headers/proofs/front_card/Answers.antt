@@ -1,5 +1,5 @@
 -- `fits_headers::front_card` meets its contract.
-use Rattle.std.proofs.Common.{◌∙◌, ◌-◌, arith}
+use Rattle.std.proofs.Common.{◌∙◌, arith}
 use Rattle.fits_headers.specs.Places.Fronts.{front-start, front-more, front-end}
 use Rattle.fits_headers.proofs.front_card.Goals as goal
 

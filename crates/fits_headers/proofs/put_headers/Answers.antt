@@ -1,5 +1,6 @@
 -- `fits_headers::put_headers` meets its contract. What is left to write is the places from `place` on.
-use Rattle.std.proofs.Common.{◌≡◌, refl, ◌∙◌, flat_map, ◌-◌, arith, length}
+use Rattle.std.proofs.Common.{◌≡◌, refl, ◌∙◌, arith, length}
+use mathlib.Core.List.{flat_map}
 use Rattle.lists.specs.Records.{tabulate}
 use Rattle.lists.specs.Writes.{fill_start, fill-part, fill_end}
 use Rattle.numerals.specs.Numbers.{digits_up_to}

@@ -1,14 +1,14 @@
 -- NAXIS2's card stands in 80 bytes whatever its number, so that both headers are known but for its digits.
-use Rattle.std.specs.Prelude.{◌≡◌, refl, ℕ, ◌+◌, ◌-◌, ◌%◌, ◌≤◌, take, drop}
-use Rattle.std.proofs.Common.{sym, ◌∙◌, arith}
+use Rattle.std.specs.Prelude.{◌≡◌, refl, ℕ, take, drop}
+use Rattle.std.proofs.Common.{◌∙◌, arith}
 use Rattle.std.proofs.Math.Path.{ap}
-use mathlib.Core.List.{List, [], ◌∷◌, ◌++◌, flat_map, append_assoc}
+use mathlib.Core.List.{List, ◌∷◌, ◌++◌, flat_map, append_assoc}
 use Rattle.std.proofs.Math.ListN.{length, replicate, length-append}
 use Rattle.std.proofs.lemmas.List.{length-replicate}
 use Rattle.lists.specs.Flat.{flat_append}
 use Rattle.numerals.specs.Numbers.{spelt, digits_up_to}
 use Rattle.numerals.specs.Numbers.Digits.{spelt-within}
-use Rattle.fits_headers.specs.Text.{ascii, space, left_in, right_in}
+use Rattle.fits_headers.specs.Text.{ascii, space, right_in}
 use Rattle.fits_headers.specs.Cards.{Card, ◌is◌, whole, END, field, image, blocks, header}
 use Rattle.fits_headers.specs.Headers.{primary, table, column_cards, headers}
 
