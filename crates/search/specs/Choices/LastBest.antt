@@ -17,11 +17,13 @@ LastBest less [] b = ⊥
 LastBest less (c ∷ cs) b = ((b ≡ c) × Each (λ x. less x b ≡ true) cs) ⊎ (LastBest less cs b × (less b c ≡ false))
 
 pub best_in : (less : Choice → Choice → Bool) (cs : List Choice) (b : Choice) → LastBest less cs b → Memᴰ b cs
+best_in less [] b h = elim h [ ]
 best_in less (c ∷ cs) b (inl h) = Memᴰ.head h.0
 best_in less (c ∷ cs) b (inr h) = Memᴰ.tail (best_in less cs b h.0)
 
 -- there is only one
 pub only-best : (less : Choice → Choice → Bool) (cs : List Choice) (a b : Choice) → LastBest less cs a → LastBest less cs b → a ≡ b
+only-best less [] a b h k = elim h [ ]
 only-best less (c ∷ cs) a b (inl h) (inl k) = h.0 ∙ sym k.0
 only-best less (c ∷ cs) a b (inl h) (inr k) = absurd (true≢false (sym (h.1 b (best_in less cs b k.0)) ∙ ap (less b) h.0 ∙ k.1))
 only-best less (c ∷ cs) a b (inr h) (inl k) = absurd (true≢false (sym (k.1 a (best_in less cs a h.0)) ∙ ap (less a) k.0 ∙ h.1))
@@ -30,6 +32,7 @@ only-best less (c ∷ cs) a b (inr h) (inr k) = only-best less cs a b h.0 k.0
 -- what is best of all is best of those that it is one of
 pub filter-best : (less : Choice → Choice → Bool) (p : Choice → Bool) (cs : List Choice) (b : Choice) → p b ≡ true → LastBest less cs b → LastBest less (filter_of p cs) b
 unfolding filter_of
+filter-best less p [] b t h = elim h [ ]
 filter-best less p (c ∷ cs) b t h = go (p c) refl h (filter-best less p cs b t)
   where
     go : (q : Bool) → p c ≡ q → LastBest less (c ∷ cs) b → (LastBest less cs b → LastBest less (filter_of p cs) b) → LastBest less (cond q (c ∷ filter_of p cs) (filter_of p cs)) b
@@ -85,6 +88,7 @@ module _ (less : Choice → Choice → Bool) (P : Choice → Type 0) (o : Orders
 
   -- none of the whole list is above it
   pub none_above : (cs : List Choice) (b : Choice) → Each P cs → LastBest less cs b → Each (λ c. less b c ≡ false) cs
+  none_above [] b ps h x m = elim h [ ]
   none_above (c ∷ cs) b ps (inl h) x m = go (less b x) refl (Memᴰ.cases_cons m)
     where
       best : P b
