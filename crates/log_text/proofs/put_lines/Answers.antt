@@ -1,19 +1,12 @@
 -- `log_text::put_lines` meets its contract. The invariant: what is left to write is the words of the lines from `place` on, and `place` bounds how many came before.
 use Rattle.std.proofs.Common.{length, take, drop, [], ◌≡◌, ◌∙◌, ap, ◌+◌, ◌-◌, ◌*◌, arith}
 use Rattle.log_text.specs.Text.Steps.{line_long, words_more, words-end}
-use Rattle.replay_text.specs.Lines.NextLine.{IsLine, line_at_says}
+use Rattle.replay_text.specs.Lines.NextLine.{line_at_says}
 use Rattle.lists.specs.Writes.{fill_start, fill-part, fill_end}
 use Rattle.decisions.specs.Decision.{decision_width}
 use Rattle.log_text.specs.Text.{read_line}
 use Rattle.replay_text.specs.Lines.{lines_of}
 use Rattle.log_text.proofs.put_lines.Goals as goal
-
--- the line that was found
-here : (c : goal.In-Part-2 invariant-loop-start decreases-loop-start)
-    → IsLine c.before.before.before.before.before.before.args.text.now c.before.before.before.loop.place c.found.given.0.0 c.found.given.0.1.0 c.found.given.0.1.1.0
-here c =
-    let l = c.before.before.before in
-    rw (← c.before.before.next-line.ensures, c.found.given.1) at (line_at_says l.before.before.before.args.text.now l.loop.place)
 
 pub loop-start-init : goal.loop-start-init
 loop-start-init c = (omega arith, omega arith, omega arith, fill_start _ _ _)
@@ -27,22 +20,22 @@ returns-in_default c = let t = c.args.text.now in
     (omega (arith, c.loop-start.invariant.2, ap length says), fill_end _ _ _ _ _ (rw (words-end _ says) at c.loop-start.invariant.3))
 
 pub slice_bounds-line_of-count : goal.slice_bounds-line_of-count
-slice_bounds-line_of-count c = (here c.before).order
+slice_bounds-line_of-count c = let h = rw (← c.next_line-found.ensures, c.in-Part.is) at (line_at_says c.args.text.now c.loop-start.place) in h.order
 
 pub slice_bounds-line_of-start : goal.slice_bounds-line_of-start
-slice_bounds-line_of-start c = (here c.before).order
+slice_bounds-line_of-start c = let h = rw (← c.next_line-found.ensures, c.in-Part.is) at (line_at_says c.args.text.now c.loop-start.place) in h.order
 
 pub slice_bounds-line_of-end : goal.slice_bounds-line_of-end
-slice_bounds-line_of-end c = (here c.before).room
+slice_bounds-line_of-end c = let h = rw (← c.next_line-found.ensures, c.in-Part.is) at (line_at_says c.args.text.now c.loop-start.place) in h.room
 
 pub loop-start-smaller : goal.loop-start-smaller
-loop-start-smaller c = let h = here c.before.before.before.before.before.before.before.before.before.before in
+loop-start-smaller c = let h = rw (← c.next_line-found.ensures, c.in-Part.is) at (line_at_says c.args.text.now c.loop-start.place) in
     omega (arith, h.on, h.within)
 
 pub loop-start-preserved : goal.loop-start-preserved
-loop-start-preserved c = let h = here c.before.before.before.before.before.before.before.before.before.before in
-    let g = c.found-1.given.0 in
-    let t = take (g.1.0 - g.0) (drop g.0 c.args.text.now) in
+loop-start-preserved c = let h = rw (← c.next_line-found.ensures, c.in-Part.is) at (line_at_says c.args.text.now c.loop-start.place) in
+    let p = c.in-Part in
+    let t = take (p.end - p.start) (drop p.start c.args.text.now) in
     let w = line_long t in
     let k : decision_width * (c.loop-start.n + 1) ≡ decision_width * c.loop-start.n + length (read_line t).words = omega arith in (
       h.within,

@@ -11,7 +11,7 @@ use Rattle.recent.proofs.recent_decisions.Goals as goal
 
 pub returns-then-refusal-ne-NONE : goal.returns-then-refusal-ne-NONE
 unfolding recent_of recent_out
-returns-then-refusal-ne-NONE c = let f = c.recent_fault-refusal.ensures in let e = ne_eqb _ _ c.if-refusal-ne-NONE.true in (simp (← f, e), simp (← f, e))
+returns-then-refusal-ne-NONE c = let f = c.recent_fault-refusal.ensures in let e = ne_eqb _ _ c.if-refusal-ne-NONE.true in record { value = simp (← f, e); out_after = simp (← f, e) }
 
 pub loop-k-init : goal.loop-k-init
 loop-k-init c = (omega arith, rw sub-zero (fill_start _ _ _))
@@ -42,4 +42,4 @@ returns c = let f = c.recent_fault-refusal.ensures in
     let a = c.args in
     let n : length (kept_words a.log a.words.now) ≡ decision_width * a.log.count = omega (arith, w.ends) in
     let h : length (kept_words a.log a.words.now) ≤ length a.out.now = omega arith in
-    (simp (f, e), simp e (w.stands ∙ rw n at (sets_front (kept_words a.log a.words.now) a.out.now h)))
+    record { value = simp (f, e); out_after = simp e (w.stands ∙ rw n at (sets_front (kept_words a.log a.words.now) a.out.now h)) }
