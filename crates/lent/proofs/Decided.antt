@@ -1,10 +1,10 @@
--- 01 (a), of each public call here: two outcomes that its contract allows are the same. Its clauses have no reading: what a clause says, and that it decides.
+-- 01 (a), of each public call here: two outcomes that its contract allows are the same. What a clause says, and that it decides.
 use Prim.Native.Nat.{ℕ}
 use mathlib.Core.Path.{◌≡◌, refl, sym, ◌∙◌}
 use contract.Notation.{connectives}
-use denote.Ref.{Bor}
+use denote.MutBor.{MutBor}
 use seplogic.Ra.Ura.{Ura}
-use prog.Wp.{Heap}
+use types.Logic.{Logic}
 use Rattle.state.specs.declared.GovernorState.{GovernorState}
 use Rattle.state.specs.declared.Observed.{Observed}
 use Rattle.report.specs.Counters.{trivial_move_of, outcome_of}
@@ -12,17 +12,17 @@ use Rattle.lent.specs.contracts.record_trivial_move as record-trivial-move
 use Rattle.lent.specs.contracts.record_outcome as record-outcome
 
 -- the governor is left in the state of an answer, and its refusal is returned
-abbrev pub Leaves : Observed → Bor GovernorState → ℕ → Type 0
+abbrev pub Leaves : Observed → MutBor GovernorState → ℕ → Type 0
 Leaves o g r = (g.now ≡ o.state) × (r ≡ o.refusal)
 
-pub leaves_decides : (o : Observed) (g h : Bor GovernorState) (one other : ℕ) → Leaves o g one → Leaves o h other → (one ≡ other) × (g.now ≡ h.now)
+pub leaves_decides : (o : Observed) (g h : MutBor GovernorState) (one other : ℕ) → Leaves o g one → Leaves o h other → (one ≡ other) × (g.now ≡ h.now)
 leaves_decides o g h one other p q = (p.1 ∙ sym q.1, p.0 ∙ sym q.0)
 
-module _ {M : Type 1} (𝓤 : Ura M) (H : Heap 𝓤) where
+module _ {M : Type 1} {𝓤 : Ura M} (𝓛 : Logic 𝓤) where
   open connectives 𝓤 use {⌜◌⌝}
 
-  pub record_trivial_move_says : (A : _) (mem : _) (run : _) (κs : _) (a : _) (r : _) (e : _) → (record-trivial-move.clauses 𝓤 H A mem run κs a).ensures tt r e ≡ ⌜ Leaves (trivial_move_of a.0.now a.1.0) e.0 r ⌝
-  record_trivial_move_says A mem run κs a r e = refl
+  pub record_trivial_move_says : (mem : _) (run : _) (κs : _) (a : _) (r : _) (e : _) → (record-trivial-move.clauses 𝓛 mem run κs a).ensures tt r e ≡ ⌜ Leaves (trivial_move_of a.0.now a.1.0) e.0 r ⌝
+  record_trivial_move_says mem run κs a r e = refl
 
-  pub record_outcome_says : (A : _) (mem : _) (run : _) (κs : _) (a : _) (r : _) (e : _) → (record-outcome.clauses 𝓤 H A mem run κs a).ensures tt r e ≡ ⌜ Leaves (outcome_of a.0.now a.1.0 a.1.1.0) e.0 r ⌝
-  record_outcome_says A mem run κs a r e = refl
+  pub record_outcome_says : (mem : _) (run : _) (κs : _) (a : _) (r : _) (e : _) → (record-outcome.clauses 𝓛 mem run κs a).ensures tt r e ≡ ⌜ Leaves (outcome_of a.0.now a.1.0 a.1.1.0) e.0 r ⌝
+  record_outcome_says mem run κs a r e = refl

@@ -1,5 +1,2 @@
--- The thin functions over a lent governor.
-pub mod Lent
-pub mod Params
-pub mod Thin
+-- What the contracts say, beside the functions' proofs.
 pub mod Decided

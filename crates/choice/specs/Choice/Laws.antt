@@ -9,7 +9,7 @@ use Rattle.std.proofs.Math.Logic.{⊎_elim}
 use native.Mathlib.Omega.{arith}
 use Rattle.std.proofs.Math.ListN.{length}
 use Rattle.std.proofs.Math.Dec.{eqb}
-use Rattle.std.specs.Float.{fin}
+use Rattle.std.specs.Float.{nan, inf, fin}
 use Rattle.std.specs.Float.Ieee.{is_nan}
 use Rattle.std.proofs.lemmas.Bool.{not-false}
 use Rattle.kinds.specs.declared.vector.PressureVector.{PressureVector}
@@ -63,6 +63,9 @@ in_range v cw ew z e m =
 plain_number : (k : ℕ) (x : Float) → Plain k x → is_nan x ≡ false
 unfolding is_nan
 plain_number k (fin false m e) h = refl
+plain_number k nan h = elim h [ ]
+plain_number k (inf _) h = elim h [ ]
+plain_number k (fin true m e) h = elim h [ ]
 
 module _ (v : PressureVector) where
   numbers : (i : ℕ) (cs : List Candidate) (es : List CandidateEstimate) → ((e : CandidateEstimate) → Memᴰ e es → InRange v e) → Each Number (choices_from v i cs es)
