@@ -1,0 +1,7 @@
+-- `fits::file_room` meets its contract: written out, since a search would count the bytes.
+use Rattle.std.proofs.Common.{ℕ, refl, sym}
+use lib.ListN.{length-replicate}
+use Rattle.fits.proofs.file_room.Goals as goal
+
+pub returns : goal.returns
+returns c = (sym (length-replicate {0} {A = ℕ} 469440 0), refl)
