@@ -1,3 +1,0 @@
--- What both proofs share.
-pub mod Lender
-pub mod Governor
