@@ -1,0 +1,31 @@
+-- `estimates::find` meets its contract.
+use Rattle.std.proofs.Common.{◌≡◌, sym, ◌∙◌, ap, List, ℕ, arith, length, get_or}
+use Rattle.records.specs.declared.tables.Table.{Table}
+use Rattle.records.specs.Tables.{tables_of, table_at}
+use Rattle.number_order.specs.Numbers.{by_number}
+use Rattle.lookups.specs.Found.{lookup_empty, lookup-found, lookup_missing}
+use Rattle.estimates.proofs.find.Goals as goal
+
+pub returns-then-order-eq0 : goal.returns-then-order-eq0
+returns-then-order-eq0 c = sym (lookup_empty _ _ (sym (ap length c.requires) ∙ c.if-order-eq0.true))
+
+-- the table that is read is the one at that place of the order
+here : (c : goal.After-table_of-t) → let a = c.args in let ts = tables_of a.tables.now in c.table_of-t.result ≡ table_at ts (get_or (by_number ts) c.first_from-at.result 0)
+here c = c.table_of-t.ensures ∙ ap (λ (l : List ℕ). table_at (tables_of c.args.tables.now) (get_or l c.first_from-at.result 0)) c.requires
+
+pub returns-then-t-number : goal.returns-then-t-number
+returns-then-t-number c = let e = here c.before.before in
+    rw e (sym (lookup-found _ _ _ c.first_from-at.ensures (sym (ap (λ (t : Table). t.number) e) ∙ c.if-t-number.true)))
+
+pub returns : goal.returns
+returns c = let e = here c.before.before in
+    sym (lookup_missing _ _ _ c.first_from-at.ensures (λ f. c.if-t-number.false (ap (λ (t : Table). t.number) e ∙ f)))
+
+pub first_from-at-requires : goal.first_from-at-requires
+first_from-at-requires c = (omega (arith, c.if-order-eq0.false), c.requires)
+
+pub offset_bounds-order-at : goal.offset_bounds-order-at
+offset_bounds-order-at c = omega (arith, c.first_from-at.ensures.within, ap length c.requires, c.well_formed)
+
+pub bounds-order-at : goal.bounds-order-at
+bounds-order-at c = omega (arith, c.first_from-at.ensures.within, ap length c.requires)

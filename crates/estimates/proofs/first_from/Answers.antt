@@ -1,0 +1,46 @@
+-- `estimates::first_from` meets its contract.
+use Rattle.std.proofs.Common.{◌≡◌, refl, ◌∙◌, ap, ⊎_elim, List, ℕ, ◌-◌, ◌/◌, ◌<◌, arith, length, get_or, lt-ltb, le-ltb}
+use Rattle.lists.specs.Halving.{halving_start, halving_there, halving_down, halving_up}
+use Rattle.lists.specs.Ordered.{each_at}
+use Rattle.records.specs.Tables.{tables_of}
+use Rattle.number_order.specs.Numbers.{number_at, by_number}
+use Rattle.number_order.specs.Ordered.{number-within}
+use Rattle.lookups.specs.Found.{below-falls}
+use Rattle.estimates.proofs.first_from.Goals as goal
+
+pub loop-left-init : goal.loop-left-init
+loop-left-init c = halving_start (ap length c.requires.1) c.requires.0
+
+inside : (c : goal.After-shared_slice_known-in-loop-left-1 invariant-loop-left decreases-loop-left) → c.before.before.loop.last - c.before.before.loop.left / 2 < length c.before.before.before.before.before.args.order.now
+inside c = rw c.before.before.before.before.before.requires.1 (halving_there c.before.before.loop.invariant c.before.loop-test.true refl refl).1
+
+pub number_of-requires : goal.number_of-requires
+number_of-requires c = let ts = tables_of c.args.tables.now in
+    rw c.requires.1 (each_at _ (by_number ts) (number-within ts) _ 0 (halving_there c.loop-left.invariant c.loop-left-test.true refl refl).1)
+
+pub loop-left-smaller : goal.loop-left-smaller
+loop-left-smaller c = omega (arith, c.loop-left-test.true)
+
+pub loop-left-preserved : goal.loop-left-preserved
+loop-left-preserved c = let ts = tables_of c.args.tables.now in
+    let s = c.loop-left.invariant in
+    let more = c.loop-left-test.true in
+    let number = c.number_of.ensures ∙ ap (λ (l : List ℕ). number_at ts (get_or l (c.loop-left.last - c.loop-left.left / 2) 0)) c.requires.1 in
+    ⊎_elim
+    (λ w. rw w.1 (halving_down s more refl refl (le-ltb _ _ (rw number at w.0.taken))))
+    (λ w. rw w.1 (halving_up s more refl refl (below-falls ts c.args.number) (lt-ltb _ _ (rw number at w.0.left))))
+    c.if-number-number_of.branch
+
+pub returns : goal.returns
+returns c = let s = c.loop-left.invariant in
+    let one : c.loop-left.left ≡ 1 = omega (arith, s.some, c.loop-left-test.false) in
+    rw one at s
+
+pub overflow_sub-last : goal.overflow_sub-last
+overflow_sub-last c = omega (arith, c.requires.0)
+
+pub overflow_sub-there : goal.overflow_sub-there
+overflow_sub-there c = (halving_there c.loop-left.invariant c.loop-left-test.true refl refl).0
+
+pub offset_bounds-order-there : goal.offset_bounds-order-there
+offset_bounds-order-there c = omega (arith, (halving_there c.loop-left.invariant c.loop-left-test.true refl refl).1, ap length c.requires.1, c.well_formed)
