@@ -1,5 +1,5 @@
 -- `fits::put_rows` meets its contract. What is left to write is the cells of the kept words from the i-th on.
-use Rattle.std.proofs.Common.{◌≡◌, ◌∙◌, ◌-◌, ◌*◌, ◌%◌, ◌≤◌, ◌<◌, arith, length, get_or}
+use Rattle.std.proofs.Common.{◌≡◌, ◌∙◌, ◌*◌, ◌%◌, ◌≤◌, ◌<◌, arith, length, get_or}
 use Rattle.lists.specs.Writes.{fill_start, fill-part, fill_end}
 use Rattle.columns.specs.Columns.{form_of}
 use Rattle.decision_log.specs.Log.{kept_words}

@@ -10,7 +10,8 @@ pub returns-then-refusal-ne-NONE : goal.returns-then-refusal-ne-NONE
 returns-then-refusal-ne-NONE c = let f = c.fits_fault-refusal.ensures in
     let a = c.args in
     let e = ne_eqb _ _ c.if-refusal-ne-NONE.true in
-    with_counts (fits_fault a.log a.words.now (length a.out.now)) (log_fits a.log a.words.now) a.out.now _ _ (simp (← f, e), simp (← f, e))
+    let r = with_counts (fits_fault a.log a.words.now (length a.out.now)) (log_fits a.log a.words.now) a.out.now (record { refusal = c.fits_fault-refusal.result; length = 0 }) a.out.now (simp (← f, e), simp (← f, e)) in
+    record { value = r.0; out_after = r.1.0; counts = r.1.1 }
 
 pub overflow_mul-end : goal.overflow_mul-end
 overflow_mul-end c = let s = write_sound _ _ _ (sym c.fits_fault-refusal.ensures ∙ c.if-refusal-ne-NONE.false) in omega arith
@@ -39,5 +40,6 @@ returns c = let f = c.fits_fault-refusal.ensures in
     let l = log-length _ a.words.now s.0 in
     let room : file_length a.log.count ≤ length a.out.now = omega arith in
     let w = log-written _ a.words.now s.0 a.out.now room in
-    with_counts (fits_fault a.log a.words.now (length a.out.now)) (log_fits a.log a.words.now) a.out.now _ _
-    (simp (f, e, c.file_length-length.ensures, l), simp e (rw (c.put_zeros.ensures, c.put_rows.ensures, c.put_headers.ensures, c.file_length-length.ensures) w))
+    let r = with_counts (fits_fault a.log a.words.now (length a.out.now)) (log_fits a.log a.words.now) a.out.now (record { refusal = c.fits_fault-refusal.result; length = c.file_length-length.result }) c.put_zeros.new.out
+    (simp (f, e, c.file_length-length.ensures, l), simp e (rw (c.put_zeros.ensures, c.put_rows.ensures, c.put_headers.ensures, c.file_length-length.ensures) w)) in
+    record { value = r.0; out_after = r.1.0; counts = r.1.1 }

@@ -1,5 +1,5 @@
 -- How long the log's table is, that it is whole blocks, and that its row k is the k-th oldest decision.
-use Rattle.std.specs.Prelude.{◌≡◌, refl, ℕ, zero, suc, ◌+◌, ◌-◌, ◌*◌, ◌/◌, ◌%◌, ◌≤◌, ◌<◌, List, [], ◌∷◌, ◌++◌, take, drop, replicate}
+use Rattle.std.specs.Prelude.{◌≡◌, refl, ℕ, zero, suc, ◌+◌, ◌-◌, ◌*◌, ◌/◌, ◌%◌, ◌≤◌, ◌<◌, List, ◌++◌, take, drop, replicate}
 use Rattle.std.proofs.Common.{sym, ◌∙◌, ap, zero-add, append_assoc, append-nil, length-append, take_at}
 use native.Mathlib.Omega.{arith}
 use Rattle.std.proofs.Math.ListN.{length}
@@ -8,7 +8,7 @@ use Rattle.std.proofs.lemmas.List.Edits.{sets}
 use Rattle.std.proofs.Math.Seq.{drop-append-add, drop-append_seam}
 use Rattle.decisions.specs.Decision.{decision_width}
 use Rattle.decision_log.specs.declared.DecisionLog.{DecisionLog}
-use Rattle.decision_log.specs.Log.{max_kept, kept_place, place_words, kept_from, kept_words}
+use Rattle.decision_log.specs.Log.{kept_place, place_words, kept_from, kept_words}
 use Rattle.decision_log.specs.Log.Kept.{place-length, kept_cons, kept-split, kept-length}
 use Rattle.decision_log.specs.Log.Sound.{Sound}
 use Rattle.lists.specs.Writes.{sets_append, sets_front}
