@@ -7,7 +7,4 @@ pub mod Rise
 pub mod Grid
 pub mod Beside
 pub mod Entries
-pub mod Cell
 pub mod Accurate
-pub mod Rounded
-pub mod Answer

@@ -1,4 +1,4 @@
--- The tables by number: their order, whether a number comes twice, and what that order tells of it.
+-- The tables by number: their order, and whether a number comes twice.
 pub mod Numbers
 pub mod Read
 pub mod Ordered

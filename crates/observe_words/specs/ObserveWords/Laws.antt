@@ -1,7 +1,6 @@
 -- They are the words of the state after the observation, so that the call on words is the call on the state in them.
-use Rattle.std.specs.Prelude.{◌≡◌, refl, ℕ, zero, suc, ◌+◌, Bool, true, false, not, List, [], ◌∷◌, length, drop, get_or, set}
+use Rattle.std.specs.Prelude.{◌≡◌, refl, ℕ, zero, suc, ◌+◌, Bool, true, false, not, List, [], ◌∷◌, length, drop, get_or}
 use Rattle.std.proofs.Common.{ap, ◌∙◌, arith, drop_of_length-le, drop-cons}
-use Rattle.std.proofs.lemmas.List.Edits.{sets}
 use borrow.Author.Tests.{ne_eqb}
 use Rattle.refusals.specs.Refusals.{none, ◌gives◌, first_fault, bad_state, too_large, counter_full}
 use Rattle.counts.specs.Counts.{any_large}

@@ -69,22 +69,21 @@ words-good s h =
       le-leb s.streaks.exit_emergency (2 ^ 32 - 1) h.emergency,
     )
 
-from_back : (s : GovernorState) → Floats s → state_from (state_words s) ≡ s
-unfolding state_from state_words signals_in vector_in times_in counters_in
-from_back s h =
-    rw (
-      mode-back s.mode,
-      focus-back s.focus.current_focus s.focus.streak,
-      of_bits-to_bits binary64 s.signals.tables_probed_ewma h.probed,
-      of_bits-to_bits binary64 s.signals.pressure_ewma h.ewma,
-      of_bits-to_bits binary64 s.signals.last_pressure h.pressure,
-      of_bits-to_bits binary64 s.signals.debt_ewma h.debt,
-      of_bits-to_bits binary64 s.signals.pressure_vector.l0 h.l0,
-      of_bits-to_bits binary64 s.signals.pressure_vector.deep_debt h.deep,
-      of_bits-to_bits binary64 s.signals.pressure_vector.read h.read,
-      of_bits-to_bits binary64 s.counters.predicted_actual_abs_pct_error_sum h.error,
-    )
-
 pub back : (s : GovernorState) → Fits s → state_in (state_words s) ≡ s
-unfolding state_in
-back s h = rw (words-good s h.smalls) (from_back s h.floats)
+unfolding state_in state_from state_words signals_in vector_in times_in counters_in
+back s h = rw (words-good s h.smalls) (from_back h.floats)
+  where
+    from_back : Floats s → state_from (state_words s) ≡ s
+    from_back h =
+        rw (
+          mode-back s.mode,
+          focus-back s.focus.current_focus s.focus.streak,
+          of_bits-to_bits binary64 s.signals.tables_probed_ewma h.probed,
+          of_bits-to_bits binary64 s.signals.pressure_ewma h.ewma,
+          of_bits-to_bits binary64 s.signals.last_pressure h.pressure,
+          of_bits-to_bits binary64 s.signals.debt_ewma h.debt,
+          of_bits-to_bits binary64 s.signals.pressure_vector.l0 h.l0,
+          of_bits-to_bits binary64 s.signals.pressure_vector.deep_debt h.deep,
+          of_bits-to_bits binary64 s.signals.pressure_vector.read h.read,
+          of_bits-to_bits binary64 s.counters.predicted_actual_abs_pct_error_sum h.error,
+        )

@@ -1,5 +1,5 @@
 -- `writers::put_numbers` meets its contract. What is left is the numbers from place i on.
-use Rattle.std.proofs.Common.{◌-◌, add-zero, add_assoc, arith, drop_of_length-le}
+use Rattle.std.proofs.Common.{add-zero, add_assoc, arith, drop_of_length-le}
 use Rattle.lists.specs.Writes.{filled-clip, fill_start, fill_put, fill_end}
 use Rattle.records.specs.Tables.{tables_of}
 use Rattle.writers.specs.Steps.{numbers_more}

@@ -1,5 +1,5 @@
 -- `writers::put_overlapping` meets its contract. What is left is the numbers of the overlapping ones from place i on.
-use Rattle.std.proofs.Common.{sym, ◌∙◌, ◌-◌, add-zero, add_assoc, arith}
+use Rattle.std.proofs.Common.{sym, ◌∙◌, add-zero, add_assoc, arith}
 use Rattle.lists.specs.Writes.{fill_start, fill_put, fill_end}
 use Rattle.lists.specs.Filter.{filter-keep, filter_skip, filter-end}
 use Rattle.overlaps.specs.Overlaps.{meets}

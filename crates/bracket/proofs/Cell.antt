@@ -10,7 +10,7 @@ use Rattle.bracket.specs.Tangent.{pw_pos, bot_pos, num-same, top-same}
 use Rattle.bracket.specs.Grid.{Under, Over, under, over}
 use Rattle.arith.specs.Logarithm.Cubic.{high, low, low-zero, high-step, low_step}
 use Rattle.arith.specs.Logarithm.Rem.{rem-high, rem-low}
-use Rattle.bracket.specs.Entries.{entry-under, entry-over}
+use Rattle.bracket.proofs.Entries.{entry-under, entry-over}
 
 -- the grid's values are in units of 2^-44 / u, so that its F is 2^44 u
 abbrev u : ℕ

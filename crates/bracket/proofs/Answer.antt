@@ -6,7 +6,7 @@ use Rattle.arith.specs.Whole.{rounded_of}
 use Rattle.arith.specs.Logarithm.{units_of}
 use Rattle.arith.specs.Logarithm.Value.{ln_value}
 use Rattle.bracket.specs.Series.{Near}
-use Rattle.bracket.specs.Rounded.{near_age}
+use Rattle.bracket.proofs.Rounded.{near_age}
 
 -- For each age, each answer r that the contract of `ln_1p` allows, and all numbers i and j of terms, with 2^k the largest power of two not above 1 + age:
 -- r is n units of 2^-44, no more and no less, and n units are within 2^-40 of the bracket of ln (1 + age) = k ln 2 + 2 atanh ((1 + age - 2^k) / (1 + age + 2^k)).

@@ -10,7 +10,8 @@ use Rattle.arith.specs.Logarithm.Top.{top-le, top-only, units_power}
 use Rattle.bracket.specs.Series.{pw, num, top, bot, Near}
 use Rattle.bracket.specs.Tangent.{pw_pos, bot_pos, num-same, top-same}
 use Rattle.bracket.specs.Beside.{Between, beside}
-use Rattle.bracket.specs.Accurate.{ln2-under, ln2-over, joined, units_between}
+use Rattle.bracket.specs.Accurate.{ln2-under, ln2-over, joined}
+use Rattle.bracket.proofs.Accurate.{units_between}
 
 -- where the power of two ends, the second part is ln 2
 end : (c : ℕ) → 0 < c → Between c c (ln2 / 4096 - 1) (ln2 / 4096 + 2)
