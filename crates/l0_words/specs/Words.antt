@@ -14,7 +14,7 @@ offer kind level len ns = record { kind = kind; level = level; batch_len = len; 
 
 -- a candidate's six words, its numbers standing from a place on in the number list
 abbrev pub six_words : ℕ → Offer → List ℕ
-six_words start c = c.kind ∷ c.level ∷ c.batchLen ∷ c.output ∷ start ∷ length c.numbers ∷ []
+six_words start c = c.kind ∷ c.level ∷ c.batch_len ∷ c.output ∷ start ∷ length c.numbers ∷ []
 
 unfoldable pub words_from : ℕ → List Offer → List ℕ
 words_from start [] = []

@@ -10,15 +10,14 @@ pub returns-then-order-eq0 : goal.returns-then-order-eq0
 returns-then-order-eq0 c = sym (lookup_empty _ _ (sym (ap length c.requires) ∙ c.if-order-eq0.true))
 
 -- the table that is read is the one at that place of the order
-here : (c : goal.After-table_of-t) → let a = c.args in let ts = tables_of a.tables.now in c.table_of-t.result ≡ table_at ts (get_or (by_number ts) c.first_from-at.result 0)
-here c = c.table_of-t.ensures ∙ ap (λ (l : List ℕ). table_at (tables_of c.args.tables.now) (get_or l c.first_from-at.result 0)) c.requires
-
 pub returns-then-t-number : goal.returns-then-t-number
-returns-then-t-number c = let e = here c.before.before in
+returns-then-t-number c =
+    let e : c.table_of-t.result ≡ table_at (tables_of c.args.tables.now) (get_or (by_number (tables_of c.args.tables.now)) c.first_from-at.result 0) = c.table_of-t.ensures ∙ ap (λ (l : List ℕ). table_at (tables_of c.args.tables.now) (get_or l c.first_from-at.result 0)) c.requires in
     rw e (sym (lookup-found _ _ _ c.first_from-at.ensures (sym (ap (λ (t : Table). t.number) e) ∙ c.if-t-number.true)))
 
 pub returns : goal.returns
-returns c = let e = here c.before.before in
+returns c =
+    let e : c.table_of-t.result ≡ table_at (tables_of c.args.tables.now) (get_or (by_number (tables_of c.args.tables.now)) c.first_from-at.result 0) = c.table_of-t.ensures ∙ ap (λ (l : List ℕ). table_at (tables_of c.args.tables.now) (get_or l c.first_from-at.result 0)) c.requires in
     sym (lookup_missing _ _ _ c.first_from-at.ensures (λ f. c.if-t-number.false (ap (λ (t : Table). t.number) e ∙ f)))
 
 pub first_from-at-requires : goal.first_from-at-requires

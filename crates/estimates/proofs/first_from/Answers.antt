@@ -1,5 +1,5 @@
 -- `estimates::first_from` meets its contract.
-use Rattle.std.proofs.Common.{◌≡◌, refl, ◌∙◌, ap, ⊎_elim, List, ℕ, ◌-◌, ◌/◌, ◌<◌, arith, length, get_or, lt-ltb, le-ltb}
+use Rattle.std.proofs.Common.{◌≡◌, refl, ◌∙◌, ap, List, ℕ, ◌-◌, ◌/◌, arith, length, get_or, lt-ltb, le-ltb}
 use Rattle.lists.specs.Halving.{halving_start, halving_there, halving_down, halving_up}
 use Rattle.lists.specs.Ordered.{each_at}
 use Rattle.records.specs.Tables.{tables_of}
@@ -7,12 +7,13 @@ use Rattle.number_order.specs.Numbers.{number_at, by_number}
 use Rattle.number_order.specs.Ordered.{number-within}
 use Rattle.lookups.specs.Found.{below-falls}
 use Rattle.estimates.proofs.first_from.Goals as goal
+use Rattle.estimates.proofs.first_from.Goals.{then-number-number_of, else-number-number_of}
 
 pub loop-left-init : goal.loop-left-init
 loop-left-init c = halving_start (ap length c.requires.1) c.requires.0
 
-inside : (c : goal.After-shared_slice_known-in-loop-left-1 invariant-loop-left decreases-loop-left) → c.before.before.loop.last - c.before.before.loop.left / 2 < length c.before.before.before.before.before.args.order.now
-inside c = rw c.before.before.before.before.before.requires.1 (halving_there c.before.before.loop.invariant c.before.loop-test.true refl refl).1
+pub bounds-order-there : goal.bounds-order-there
+bounds-order-there c = rw c.requires.1 (halving_there c.loop-left.invariant c.loop-left-test.true refl refl).1
 
 pub number_of-requires : goal.number_of-requires
 number_of-requires c = let ts = tables_of c.args.tables.now in
@@ -26,10 +27,10 @@ loop-left-preserved c = let ts = tables_of c.args.tables.now in
     let s = c.loop-left.invariant in
     let more = c.loop-left-test.true in
     let number = c.number_of.ensures ∙ ap (λ (l : List ℕ). number_at ts (get_or l (c.loop-left.last - c.loop-left.left / 2) 0)) c.requires.1 in
-    ⊎_elim
-    (λ w. rw w.1 (halving_down s more refl refl (le-ltb _ _ (rw number at w.0.taken))))
-    (λ w. rw w.1 (halving_up s more refl refl (below-falls ts c.args.number) (lt-ltb _ _ (rw number at w.0.left))))
-    c.if-number-number_of.branch
+    elim c.if-number-number_of.branch [
+      | then-number-number_of w ↦ rw w.last-is (halving_down s more refl refl (le-ltb _ _ (rw number at w.if-number-number_of.true)))
+      | else-number-number_of w ↦ rw w.last-is (halving_up s more refl refl (below-falls ts c.args.number) (lt-ltb _ _ (rw number at w.if-number-number_of.false)))
+    ]
 
 pub returns : goal.returns
 returns c = let s = c.loop-left.invariant in

@@ -1,5 +1,4 @@
 -- `estimates::first_from` meets its contract.
-use Rattle.std.proofs.Common.{◌-◌}
 use Rattle.lists.specs.Halving.{Halving}
 use Rattle.records.specs.Tables.{tables_of}
 use Rattle.number_order.specs.Numbers.{by_number}

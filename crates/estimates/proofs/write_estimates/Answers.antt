@@ -1,5 +1,5 @@
 -- `estimates::write_estimates` meets its contract.
-use Rattle.std.proofs.Common.{length, drop, List, ℕ, ◌+◌, ◌*◌, ◌-◌, ◌<◌, ◌≡◌, sym, ◌∙◌, ap, arith}
+use Rattle.std.proofs.Common.{length, drop, List, ℕ, ◌+◌, ◌*◌, ◌<◌, ◌≡◌, sym, ◌∙◌, ap, arith}
 use Rattle.lists.specs.Flat.{flat_more, flat_end}
 use Rattle.estimates.specs.Estimate.{estimate_of, nine_words}
 use Rattle.estimates.specs.Estimate.Call.{estimate_words_of}
@@ -32,7 +32,7 @@ pub sum_for-sum-requires : goal.sum_for-sum-requires
 sum_for-sum-requires c = c.loop-i.invariant.1
 
 pub estimate_candidate-e-requires : goal.estimate_candidate-e-requires
-estimate_candidate-e-requires c = (rw c.candidate_at-c.ensures (c.requires.0.sound _ (omega arith)), (c.requires.1, c.sum_for-sum.ensures.1))
+estimate_candidate-e-requires c = record { sound = rw c.candidate_at-c.ensures (c.requires.0.sound _ (omega arith)); order_value = (c.requires.1, c.sum_for-sum.ensures.1) }
 
 pub overflow_mul-i : goal.overflow_mul-i
 overflow_mul-i c = omega (arith, c.requires.0.fits, c.well_formed)

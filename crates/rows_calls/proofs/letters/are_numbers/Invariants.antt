@@ -1,4 +1,4 @@
--- `rows_calls::letters::are_numbers` is safe and ends: each turn tests one number. Assumes nothing.
+-- `rows_calls::letters::are_numbers` is safe and ends: each turn tests one number.
 use Rattle.std.proofs.Common.{◌-◌, length}
 use Rattle.rows_calls.proofs.letters.are_numbers.Given as goal
 

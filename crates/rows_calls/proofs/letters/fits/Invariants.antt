@@ -1,4 +1,4 @@
--- `rows_calls::letters::fits` is safe and ends: each turn takes one letter. Assumes nothing.
+-- `rows_calls::letters::fits` is safe and ends: each turn takes one letter.
 use Rattle.std.proofs.Common.{◌-◌, length}
 use Rattle.rows_calls.proofs.letters.fits.Given as goal
 

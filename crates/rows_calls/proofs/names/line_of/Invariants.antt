@@ -1,4 +1,4 @@
--- `rows_calls::names::line_of` is safe and ends: each turn goes to the next line. Assumes nothing.
+-- `rows_calls::names::line_of` is safe and ends: each turn goes to the next line.
 use Rattle.std.proofs.Common.{◌-◌, length}
 use Rattle.rows_calls.proofs.names.line_of.Given as goal
 
