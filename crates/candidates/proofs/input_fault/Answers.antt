@@ -14,23 +14,26 @@ returns-then-fault-ne-NONE c = let a = c.args in
     join_stop (words_checks a.tables.now a.keys.now a.over.now) (later_checks a.tables.now a.over.now) tt c.words_fault-fault.ensures c.if-fault-ne-NONE.true
 
 -- words that pass are few enough to be told of
-told : (c : goal.After-repeats) → c.repeats.result ≡ repeats (tables_of c.args.tables.now)
-told c =
-    let a = c.args in
-    let few = words-few a.tables.now a.keys.now a.over.now (sym c.words_fault-fault.ensures ∙ c.if-fault-ne-NONE.false) in
-    told-fits _ max_ordered c.repeats.ensures few few
-
 pub returns-then-repeats : goal.returns-then-repeats
 unfolding input_checks
-returns-then-repeats c = let a = c.args in
-    join_pass (words_checks a.tables.now a.keys.now a.over.now) (later_checks a.tables.now a.over.now) tt c.words_fault-fault.ensures c.if-fault-ne-NONE.false (stop 11 _ (told c.before) c.if-repeats.true)
+returns-then-repeats c =
+    let a = c.args in
+    let few = words-few a.tables.now a.keys.now a.over.now (sym c.words_fault-fault.ensures ∙ c.if-fault-ne-NONE.false) in
+    let told : c.repeats.result ≡ repeats (tables_of a.tables.now) = told-fits _ max_ordered c.repeats.ensures few few in
+    join_pass (words_checks a.tables.now a.keys.now a.over.now) (later_checks a.tables.now a.over.now) tt c.words_fault-fault.ensures c.if-fault-ne-NONE.false (stop 11 _ told c.if-repeats.true)
 
 pub returns-then-levels_out : goal.returns-then-levels_out
 unfolding input_checks
-returns-then-levels_out c = let a = c.args in
-    join_pass (words_checks a.tables.now a.keys.now a.over.now) (later_checks a.tables.now a.over.now) tt c.words_fault-fault.ensures c.if-fault-ne-NONE.false (pass 11 (told c.before.before.before) c.if-repeats.false (stop 6 _ c.levels_out.ensures c.if-levels_out.true))
+returns-then-levels_out c =
+    let a = c.args in
+    let few = words-few a.tables.now a.keys.now a.over.now (sym c.words_fault-fault.ensures ∙ c.if-fault-ne-NONE.false) in
+    let told : c.repeats.result ≡ repeats (tables_of a.tables.now) = told-fits _ max_ordered c.repeats.ensures few few in
+    join_pass (words_checks a.tables.now a.keys.now a.over.now) (later_checks a.tables.now a.over.now) tt c.words_fault-fault.ensures c.if-fault-ne-NONE.false (pass 11 told c.if-repeats.false (stop 6 _ c.levels_out.ensures c.if-levels_out.true))
 
 pub returns : goal.returns
 unfolding input_checks
-returns c = let a = c.args in
-    join_pass (words_checks a.tables.now a.keys.now a.over.now) (later_checks a.tables.now a.over.now) tt c.words_fault-fault.ensures c.if-fault-ne-NONE.false (pass 11 (told c.before.before.before) c.if-repeats.false (pass 6 c.levels_out.ensures c.if-levels_out.false refl))
+returns c =
+    let a = c.args in
+    let few = words-few a.tables.now a.keys.now a.over.now (sym c.words_fault-fault.ensures ∙ c.if-fault-ne-NONE.false) in
+    let told : c.repeats.result ≡ repeats (tables_of a.tables.now) = told-fits _ max_ordered c.repeats.ensures few few in
+    join_pass (words_checks a.tables.now a.keys.now a.over.now) (later_checks a.tables.now a.over.now) tt c.words_fault-fault.ensures c.if-fault-ne-NONE.false (pass 11 told c.if-repeats.false (pass 6 c.levels_out.ensures c.if-levels_out.false refl))
