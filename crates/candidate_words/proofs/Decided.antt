@@ -1,5 +1,5 @@
 -- Two outcomes that the contract of this room's door allows are the same, as 01 (a) asks of calls.
-use mathlib.Core.Path.{◌≡◌}
+use Rattle.std.proofs.Common.{◌≡◌}
 use Rattle.l0_words.specs.Written.{written_decides}
 use Rattle.candidate_words.proofs.put_candidates.Reads as put-candidates
 

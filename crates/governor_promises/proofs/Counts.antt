@@ -5,7 +5,7 @@ use mathlib.Core.Path.{◌≡◌, refl, ap, ◌∙◌}
 use mathlib.Core.Bool.{Bool, true, false, cond}
 use mathlib.Core.List.{List, [], ◌∷◌, ◌++◌, flat_map}
 use lib.Dec.{eqb}
-use lib.Ieee.{Float}
+use lib.Ieee.{Float, add, binary64}
 use lib.ListN.{length, length-append}
 use Rattle.arith.specs.Floats.{f0}
 use Rattle.refusals.specs.Refusals.{none}
@@ -51,7 +51,7 @@ sum_one has b a l = ap sum_of (gather_one has b a l) ∙ sum-append (one has b a
 added-append : (x : Float) (xs ys : List Float) → added_to x (xs ++ ys) ≡ added_to (added_to x xs) ys
 unfolding added_to
 added-append x [] ys = refl
-added-append x (y ∷ xs) ys = added-append _ xs ys
+added-append x (y ∷ xs) ys = added-append (add binary64 x y) xs ys
 
 -- ---- one call
 

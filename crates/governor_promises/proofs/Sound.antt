@@ -39,6 +39,7 @@ silent cs q = never_gives bad_state cs (λ e. omega arith) q
 -- a sound state's first check finds nothing
 first-quiet : (sound : Bool) → T sound → eqb bad_state bad_state && not sound ≡ false
 first-quiet true t = refl
+first-quiet false t = elim t [ ]
 
 module _ (G : Tuning) (exits : 0 < G.exit_emergency) (enters : 0 < G.enter_read_protect) (leaves : 0 < G.exit_read_protect) where
   abbrev Sound : NextMode → Type 0

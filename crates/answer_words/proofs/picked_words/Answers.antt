@@ -1,0 +1,7 @@
+-- `answer_words::picked_words` meets its contract.
+use Rattle.answer_words.specs.AnswerWords.{picked_words}
+use Rattle.answer_words.proofs.picked_words.Goals as goal
+
+pub returns : goal.returns
+unfolding picked_words
+returns c = rw (c.number.ensures, c.focus_words-f.ensures.0, c.focus_words-f.ensures.1, c.winner_words-w.ensures.0, c.winner_words-w.ensures.1)
