@@ -7,12 +7,12 @@ use Rattle.log_words.proofs.record_decision.Goals as goal
 
 pub returns-then-log_bad : goal.returns-then-log_bad
 unfolding record_refusal record_head record_words
-returns-then-log_bad c = let b = rw c.head_in-g.ensures at (sym c.log_bad.ensures ∙ c.if-log_bad.true) in (simp b, (simp b, simp b))
+returns-then-log_bad c = let b = rw c.head_in-g.ensures at (sym c.log_bad.ensures ∙ c.if-log_bad.true) in record { value = simp b; head_after = simp b; words_after = simp b }
 
 pub returns-in_default : goal.returns-in_default
 unfolding record_refusal record_head record_words
 returns-in_default c = let b = rw c.head_in-g.ensures at (sym c.log_bad.ensures ∙ c.if-log_bad.false) in
-    let d = is_read _ _ (sym c.of_words.ensures ∙ c.in_default.is) in (simp (b, d), (simp (b, d), simp (b, d)))
+    let d = is_read _ _ (sym c.of_words.ensures ∙ c.in_default.is) in record { value = simp (b, d); head_after = simp (b, d); words_after = simp (b, d) }
 
 pub put_head-requires : goal.put_head-requires
 put_head-requires c = head_long _ _ (rw c.head_in-g.ensures at (sym c.log_bad.ensures ∙ c.if-log_bad.false))
@@ -22,4 +22,8 @@ unfolding record_head record_words
 returns c = let h = c.head_in-g.ensures in let b = rw h at (sym c.log_bad.ensures ∙ c.if-log_bad.false) in
     let d = is_read _ _ (sym c.of_words.ensures ∙ c.in-Decision.is) in
     let k = clear _ _ _ b d.0 in
-    (sym k, (rw (eq-eqb _ _ k, ← h) (c.put_head.ensures ∙ ap (λ (r : Recorded). three_words r.log) c.record_decision-r.ensures.value), rw (eq-eqb _ _ k, ← h, d.1) c.record_decision-r.ensures.words_after))
+    record {
+      value = sym k;
+      head_after = rw (eq-eqb _ _ k, ← h) (c.put_head.ensures ∙ ap (λ (r : Recorded). three_words r.log) c.record_decision-r.ensures.value);
+      words_after = rw (eq-eqb _ _ k, ← h, d.1) c.record_decision-r.ensures.words_after;
+    }

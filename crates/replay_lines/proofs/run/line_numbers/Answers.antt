@@ -5,15 +5,15 @@ use Rattle.replay_lines.proofs.run.line_numbers.Goals as goal
 
 pub returns : goal.returns
 returns c = (
-      refl,
-      rw (
-        row-five,
-        c.number.ensures,
-        c.idx.ensures,
-        c.pacing_delay-delay.ensures,
-        c.pressure.ensures,
-        c.dominant-dominant.ensures,
-        c.pressure_vector.ensures,
-        c.mode-mode.ensures,
-      ),
-    )
+  refl,
+  rw (
+    row-five,
+    c.number.ensures,
+    c.idx.ensures,
+    c.pacing_delay-delay.ensures,
+    c.pressure.ensures,
+    c.dominant-dominant.ensures,
+    c.pressure_vector.ensures,
+    c.mode-mode.ensures,
+  ),
+)

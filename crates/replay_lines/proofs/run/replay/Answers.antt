@@ -1,5 +1,5 @@
 -- `replay_lines::run::replay` meets its contract.
-use Rattle.std.proofs.Common.{ℕ, ◌≤◌, length, zero-add, List, [], ◌≡◌, sym, ◌∙◌, arith}
+use Rattle.std.proofs.Common.{ℕ, ◌≤◌, length, zero-add, List, [], ◌++◌, ◌≡◌, sym, ◌∙◌, arith}
 use Rattle.replay_lines.specs.Replay.{replay_from, replayed_of, replay_out, Counts}
 use Rattle.replay_lines.specs.declared.run.Replayed.{Replayed}
 use Rattle.replay_text.specs.Lines.{lines_of}
@@ -14,20 +14,26 @@ counted : (bytes old : List ℕ) (r : Replayed) (new : List ℕ) → (r ≡ repl
 counted bytes old r new (e, f) = (e, (f, rw (e, f) (answer-counts bytes old)))
 
 pub returns-then-text-gt-MOST : goal.returns-then-text-gt-MOST
-returns-then-text-gt-MOST c = counted c.args.text.now c.args.out.now _ _ (answered _ _ [] (sym (replay_over c.args.text.now c.if-text-gt-MOST.true)) (omega arith))
+returns-then-text-gt-MOST c = let a = c.args in
+    let r = counted a.text.now a.out.now (record { refusal = 0; length = 0 }) a.out.now (answered _ _ [] (sym (replay_over a.text.now c.if-text-gt-MOST.true)) (omega arith)) in
+    record { value = r.0; out_after = r.1.0; counts = r.1.1 }
 
 pub returns-then-out-length : goal.returns-then-out-length
 returns-then-out-length c = let a = c.args in
+    let p = c.run-length in
     let is = sym (replay_within a.text.now c.if-text-gt-MOST.false) in
-    let no = refused _ a.out.now _ is (omega (arith, c.run-length.ensures.ends)) in
-    counted a.text.now a.out.now _ _ (no.0, none_of c.run-length.new.1.0 a.out.now c.run-length.auto.1.0 ∙ no.1)
+    let no = refused _ a.out.now _ is (omega (arith, p.ensures.ends)) in
+    let r = counted a.text.now a.out.now (record { refusal = 9; length = 0 }) (p.new.out ++ a.out.now) (no.0, none_of p.new.out a.out.now p.auto.out ∙ no.1) in
+    record { value = r.0; out_after = r.1.0; counts = r.1.1 }
 
 pub returns : goal.returns
 returns c = let a = c.args in
     let text = a.text.now in
     let out = a.out.now in
+    let p = c.run-length in
     let printed = replay_from (fresh_of 0) 1 (lines_of text) in
-    let room : length printed ≤ length out = omega (arith, c.run-length.ensures.ends) in
-    let f = rw (none_of c.run-length.new.1.0 out c.run-length.auto.1.0) at c.run.ensures in
+    let room : length printed ≤ length out = omega (arith, p.ensures.ends) in
+    let f = rw (none_of p.new.out out p.auto.out) at c.run.ensures in
     let yes = answered _ out _ (sym (replay_within text c.if-text-gt-MOST.false)) room in
-    counted text out _ _ (rw (c.run-length.ensures.ends, zero-add) yes.0, f.stands ∙ sets_front printed out room ∙ yes.1)
+    let r = counted text out (record { refusal = 0; length = p.result }) c.run.new.out (rw (p.ensures.ends, zero-add) yes.0, f.stands ∙ sets_front printed out room ∙ yes.1) in
+    record { value = r.0; out_after = r.1.0; counts = r.1.1 }
