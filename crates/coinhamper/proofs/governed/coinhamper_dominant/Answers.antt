@@ -1,0 +1,7 @@
+-- `coinhamper::governed::coinhamper_dominant` meets its contract.
+use Rattle.std.proofs.Common.{◌∙◌, ap}
+use Rattle.kinds.specs.Numbers.{dominant_number}
+use Rattle.coinhamper.proofs.governed.coinhamper_dominant.Goals as goal
+
+pub returns : goal.returns
+returns c = c.number.ensures ∙ ap dominant_number c.dominant.ensures

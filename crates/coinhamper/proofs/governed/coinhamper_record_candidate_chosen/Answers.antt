@@ -1,0 +1,7 @@
+-- `coinhamper::governed::coinhamper_record_candidate_chosen` meets its contract.
+use Rattle.std.proofs.Common.{◌∙◌, ap}
+use Rattle.state_words.specs.StateWords.{refusal_of, words_after}
+use Rattle.coinhamper.proofs.governed.coinhamper_record_candidate_chosen.Goals as goal
+
+pub returns : goal.returns
+returns c = let o = rw c.state_in.ensures at c.chosen-o.ensures in (c.keep.ensures.value ∙ ap (refusal_of _) o, c.keep.ensures.words_after ∙ ap (words_after _) o)

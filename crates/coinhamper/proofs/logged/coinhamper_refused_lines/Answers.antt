@@ -1,0 +1,10 @@
+-- `coinhamper::logged::coinhamper_refused_lines` meets its contract.
+use Rattle.std.proofs.Common.{ap}
+use Rattle.refusals.specs.declared.Written.{Written}
+use Rattle.answer_words.specs.AnswerWords.Told.{told-count}
+use Rattle.coinhamper.proofs.logged.coinhamper_refused_lines.Goals as goal
+
+pub returns : goal.returns
+returns c = let w = c.refused_lines-w.ensures.value in
+    let t = told-count _ _ _ _ _ _ _ (ap (λ (w : Written). w.refusal) w) (ap (λ (w : Written). w.length) w) c.tell.ensures in
+    (t.0, (t.1, c.refused_lines-w.ensures.out_after))

@@ -1,0 +1,7 @@
+-- `coinhamper::merges::coinhamper_estimate_candidates` meets its contract.
+use Rattle.std.proofs.Common.{ap}
+use Rattle.estimates.specs.declared.Estimated.{Estimated}
+use Rattle.coinhamper.proofs.merges.coinhamper_estimate_candidates.Goals as goal
+
+pub returns : goal.returns
+returns c = (ap (λ (e : Estimated). e.refusal) c.estimate_candidates-e.ensures.value, c.estimate_candidates-e.ensures.estimates_after)

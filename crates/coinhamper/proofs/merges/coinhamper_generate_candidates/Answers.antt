@@ -1,0 +1,6 @@
+-- `coinhamper::merges::coinhamper_generate_candidates` meets its contract.
+use Rattle.coinhamper.specs.Merges.Told.{generation}
+use Rattle.coinhamper.proofs.merges.coinhamper_generate_candidates.Goals as goal
+
+pub returns : goal.returns
+returns c = generation _ _ _ _ _ _ _ _ _ _ _ _ c.generate_candidates-g.ensures c.tell.ensures c.tell-2.ensures
