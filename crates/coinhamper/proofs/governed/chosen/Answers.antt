@@ -1,5 +1,5 @@
 -- `coinhamper::governed::chosen` meets its contract.
-use Rattle.std.proofs.Common.{ne_eqb}
+use Rattle.std.proofs.Common.{◌≢◌, arith, ne_eqb}
 use Rattle.coinhamper.specs.Governed.{chosen_by}
 use Rattle.coinhamper.proofs.governed.chosen.Goals as goal
 
@@ -17,4 +17,8 @@ returns-in-3 c = rw (c.in-3.is, ← c.record_candidate_chosen-in-3.ensures) c.ac
 
 pub returns-in_default : goal.returns-in_default
 unfolding chosen_by
-returns-in_default c = rw (ne_eqb _ _ c.in_default.not-1, ne_eqb _ _ c.in_default.not-2, ne_eqb _ _ c.in_default.not-3) c.no_such_case.ensures
+returns-in_default c =
+    let one : c.args.kind ≢ 1 = omega arith in
+    let two : c.args.kind ≢ 2 = omega arith in
+    let three : c.args.kind ≢ 3 = omega arith in
+    rw (ne_eqb _ _ one, ne_eqb _ _ two, ne_eqb _ _ three) c.no_such_case.ensures

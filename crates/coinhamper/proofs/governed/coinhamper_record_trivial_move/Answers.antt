@@ -4,4 +4,5 @@ use Rattle.state_words.specs.StateWords.{refusal_of, words_after}
 use Rattle.coinhamper.proofs.governed.coinhamper_record_trivial_move.Goals as goal
 
 pub returns : goal.returns
-returns c = let o = rw c.state_in.ensures at c.with_trivial_move-o.ensures in (c.keep.ensures.value ∙ ap (refusal_of _) o, c.keep.ensures.words_after ∙ ap (words_after _) o)
+returns c = let o = rw c.state_in.ensures at c.with_trivial_move-o.ensures in
+    record { value = c.keep.ensures.value ∙ ap (refusal_of _) o; state_after = c.keep.ensures.words_after ∙ ap (words_after _) o }

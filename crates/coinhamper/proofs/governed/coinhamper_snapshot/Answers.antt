@@ -8,4 +8,5 @@ use Rattle.coinhamper.proofs.governed.coinhamper_snapshot.Goals as goal
 
 pub returns : goal.returns
 returns c = let a = rw c.state_in.ensures at c.snapshot-a.ensures in
-    told _ _ _ _ 14 c.args.out.now _ _ (c.gate.ensures ∙ ap (gated _) (c.snapshot_refusal.ensures ∙ ap snapshot_refusal a)) (c.snapshot_words-fourteen.ensures ∙ ap figures_or a) (fourteen _) c.answer.ensures
+    let both = told _ _ _ _ 14 c.args.out.now _ _ (c.gate.ensures ∙ ap (gated _) (c.snapshot_refusal.ensures ∙ ap snapshot_refusal a)) (c.snapshot_words-fourteen.ensures ∙ ap figures_or a) (fourteen _) (c.answer.ensures.value, c.answer.ensures.out_after) in
+    record { value = both.0; out_after = both.1 }

@@ -6,4 +6,4 @@ use Rattle.coinhamper.proofs.logged.coinhamper_recent_decisions.Goals as goal
 
 pub returns : goal.returns
 unfolding recent_of
-returns c = (ap (λ (r : Recent). r.refusal) (rw c.head_in.ensures at c.recent_decisions-r.ensures.value), rw c.head_in.ensures at c.recent_decisions-r.ensures.out_after)
+returns c = record { value = ap (λ (r : Recent). r.refusal) (rw c.head_in.ensures at c.recent_decisions-r.ensures.value); out_after = rw c.head_in.ensures at c.recent_decisions-r.ensures.out_after }

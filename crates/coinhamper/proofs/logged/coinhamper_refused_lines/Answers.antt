@@ -6,5 +6,5 @@ use Rattle.coinhamper.proofs.logged.coinhamper_refused_lines.Goals as goal
 
 pub returns : goal.returns
 returns c = let w = c.refused_lines-w.ensures.value in
-    let t = told-count _ _ _ _ _ _ _ (ap (λ (w : Written). w.refusal) w) (ap (λ (w : Written). w.length) w) c.tell.ensures in
-    (t.0, (t.1, c.refused_lines-w.ensures.out_after))
+    let t = told-count _ _ _ _ _ _ _ (ap (λ (w : Written). w.refusal) w) (ap (λ (w : Written). w.length) w) (c.tell.ensures.value, c.tell.ensures.count_after) in
+    record { value = t.0; written_after = t.1; out_after = c.refused_lines-w.ensures.out_after }

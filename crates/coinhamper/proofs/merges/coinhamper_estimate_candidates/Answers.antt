@@ -4,4 +4,4 @@ use Rattle.estimates.specs.declared.Estimated.{Estimated}
 use Rattle.coinhamper.proofs.merges.coinhamper_estimate_candidates.Goals as goal
 
 pub returns : goal.returns
-returns c = (ap (λ (e : Estimated). e.refusal) c.estimate_candidates-e.ensures.value, c.estimate_candidates-e.ensures.estimates_after)
+returns c = record { value = ap (λ (e : Estimated). e.refusal) c.estimate_candidates-e.ensures.value; estimates_after = c.estimate_candidates-e.ensures.estimates_after }
