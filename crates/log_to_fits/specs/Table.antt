@@ -3,7 +3,7 @@ use Rattle.std.specs.Prelude.{◌≡◌, refl, ℕ, ◌*◌, List, ◌++◌, len
 use Rattle.std.proofs.Common.{take_at}
 use Rattle.refusals.specs.Refusals.{none}
 use Rattle.decisions.specs.Decision.{decision_width}
-use Rattle.log.specs.Log.Kept.{kept-front}
+use Rattle.decision_log.specs.Log.Kept.{kept-front}
 use Rattle.replay_text.specs.Lines.{lines_of}
 use Rattle.fits.specs.Rows.{fits_of}
 use Rattle.fits.specs.File.{log_fits}
