@@ -3,7 +3,7 @@ use Prim.Native.Nat.{ℕ, ◌-◌, ◌^◌, ◌≤◌, ◌<◌}
 use native.Mathlib.Omega.{arith}
 use mathlib.Core.Bool.{Bool}
 use lib.Dec.{T}
-use lib.Ieee.{Float, binary64, fits, lt, is_nan, div}
+use lib.Ieee.{Float, binary64, fits, lt, is_nan}
 use lib.Ieee.Bits.{of_bits-fits}
 use lib.Ieee.Fits.{cond-fits, add-fits, div-fits}
 use Rattle.arith.specs.Floats.{f0, f1, minimum_of, maximum_of, clamp_of}

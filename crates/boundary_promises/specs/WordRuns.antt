@@ -10,9 +10,9 @@ use Rattle.governor.specs.Observe.{observed_of}
 use Rattle.engine.specs.Engine.{engine_of}
 use Rattle.report.specs.Counters.{trivial_move_of, outcome_of}
 use Rattle.snapshot.specs.Snapshot.{snapshot_of, snapshot_refusal}
-use Rattle.governor_promises.specs.Reading.{Observation, sampled, counted}
+use Rattle.governor_promises.specs.Reading.{sampled, counted}
 use Rattle.governor_promises.specs.Calls.{Action, observe, move, outcome, choose, focus, snapshot, acted}
-use Rattle.state_words.specs.StateWords.{state_in, focus_flag, focus_level, gated, refusal_of, words_after}
+use Rattle.state_words.specs.StateWords.{state_in, focus_flag, focus_level, refusal_of, words_after}
 use Rattle.answer_words.specs.AnswerWords.{reading_words}
 use Rattle.coinhamper.specs.Governed.{chosen_by, focused_by}
 
