@@ -20,7 +20,7 @@ use Rattle.state.specs.State.{fresh_of}
 use Rattle.governor_promises.specs.Reading.{sampled, counted, ReadsAs}
 use Rattle.governor_promises.specs.Calls.{Action, observe, move, outcome, choose, focus, snapshot, EachCall, acted, after}
 use Rattle.governor_promises.specs.Times.{highest, ReadingFits, full_beside_time}
-use Rattle.governor_promises.proofs.Answers.{refused-changes-nothing}
+use Rattle.governor_promises.proofs.Answers.{refused_changes_nothing}
 use Rattle.governor_promises.proofs.Thresholds.{source-apart}
 use Rattle.governor_promises.proofs.CallByCall.{list, reads_calls}
 use Rattle.governor_promises.proofs.Times.{times_add_up, time_never_full}
@@ -60,7 +60,7 @@ module _ (s : GovernorState) (a : Action) (h : Fits s) (k : Handed a) where
   same = ap (λ (t : GovernorState). said_of t a) (back s h) ∙ said s a k
 
   both : (refusal_of (state_words s) (acted source s a) ≡ (acted source s a).refusal) × (words_after (state_words s) (acted source s a) ≡ state_words (acted source s a).state)
-  both = answers s (acted source s a) h (refused-changes-nothing source s a)
+  both = answers s (acted source s a) h (refused_changes_nothing source s a)
 
   pub refusal-same : refusal_on (state_words s) a ≡ (acted source s a).refusal
   refusal-same = ap (refusal_of (state_words s)) same ∙ both.0

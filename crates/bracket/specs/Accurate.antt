@@ -1,4 +1,4 @@
--- The units at m are within 16, which is 2^-40, of the bracket of ln m = k ln 2 + 2 atanh (a / b), whatever the numbers of terms.
+-- k ln 2 and a part's bracket joined: within 16 units, which is 2^-40, of the bracket of ln m = k ln 2 + 2 atanh (a / b), whatever the numbers of terms.
 use Rattle.std.specs.Prelude.{ℕ, ◌+◌, ◌-◌, ◌*◌, ◌/◌, ◌^◌, ◌≤◌}
 use Rattle.std.proofs.Common.{mul-le-mul_left, mul-le-mul_right, arith, lit<}
 use Rattle.std.proofs.Math.Dec.{lit≤}

@@ -31,11 +31,11 @@ pub by-same : (P : Bool → GovernorState → Type 0) (fault : ℕ) (s : Governo
 by-same P fault s p q = elim (eqb fault none) as (λ b. P b s) [ true ↦ p | false ↦ q ]
 
 -- the state after an accepted observation
-abbrev pub newOf : Tuning → GovernorState → ℕ → Observation → GovernorState
-newOf G s now (sampled x) = accepted_of G s s.window now x
-newOf G s now (counted e a) = accepted_of G s (window_of a) now (sample_of s e a)
+abbrev pub new_of : Tuning → GovernorState → ℕ → Observation → GovernorState
+new_of G s now (sampled x) = accepted_of G s s.window now x
+new_of G s now (counted e a) = accepted_of G s (window_of a) now (sample_of s e a)
 
-pub by_answer : (P : Bool → GovernorState → Type 0) (G : Tuning) (s : GovernorState) (now : ℕ) (o : Observation) → P true (newOf G s now o) → P false s → Says P (answer_of G s now o)
+pub by_answer : (P : Bool → GovernorState → Type 0) (G : Tuning) (s : GovernorState) (now : ℕ) (o : Observation) → P true (new_of G s now o) → P false s → Says P (answer_of G s now o)
 unfolding observed_of engine_of
 by_answer P G s now (sampled x) = by-fault P (observe_fault G s now x) s _
 by_answer P G s now (counted e a) = by-fault P (engine_fault G s now e a) s _
@@ -52,8 +52,8 @@ kept G s (choose kind) = λ n. absurd (n tt)
 kept G s (focus f) = λ n. absurd (n tt)
 kept G s (snapshot now) = λ n. refl
 
-pub refused-changes-nothing : (G : Tuning) (s : GovernorState) (a : Action) → ¬ ((acted G s a).refusal ≡ none) → (acted G s a).state ≡ s
-refused-changes-nothing G s a n = kept G s a (λ t. n (eqb→eq _ none t))
+pub refused_changes_nothing : (G : Tuning) (s : GovernorState) (a : Action) → ¬ ((acted G s a).refusal ≡ none) → (acted G s a).state ≡ s
+refused_changes_nothing G s a n = kept G s a (λ t. n (eqb→eq _ none t))
 
 -- a snapshot with no fault answers 0 and its figures, and one with a fault that number and nothing else
 module _ (s : GovernorState) (now : ℕ) where

@@ -24,7 +24,7 @@ use Rattle.governor_promises.specs.Calls.{Action, observe, move, outcome, choose
 use Rattle.governor_promises.proofs.Thresholds.{source-apart}
 use Rattle.governor_promises.proofs.Turns.{at, run}
 use Rattle.governor_promises.proofs.ModeRead.{mode-read}
-use Rattle.governor_promises.proofs.Answers.{Says, by-fault, by-same, newOf, by_answer}
+use Rattle.governor_promises.proofs.Answers.{Says, by-fault, by-same, new_of, by_answer}
 
 abbrev turned : GovernorState → NextMode
 turned s = at s.mode s.streaks
@@ -36,7 +36,7 @@ seen_by s xs = seen_from s.signals.tables_probed_ewma s.window.last_probed s.win
 module _ (G : Tuning) where
   -- an accepted observation is one step, and leaves the smoothed count and the counters that the rest is looked at with
   one : (s : GovernorState) (now : ℕ) (o : Observation) (xs : List Observation)
-      → run G (turned (newOf G s now o)) (seen_by (newOf G s now o) xs) ≡ run G (turned s) (seen_by s (o ∷ xs))
+      → run G (turned (new_of G s now o)) (seen_by (new_of G s now o) xs) ≡ run G (turned s) (seen_by s (o ∷ xs))
   unfolding run seen_from accepted_of signals_of blended_of fraction_of per_get
   one s now (sampled x) xs = refl
   one s now (counted e a) xs = refl

@@ -24,7 +24,7 @@ use Rattle.snapshot.specs.Snapshot.{snapshot_of, snapshot_refusal}
 use Rattle.governor_promises.specs.Reading.{Observation, sampled, counted}
 use Rattle.governor_promises.specs.Calls.{Action, observe, move, outcome, choose, focus, snapshot, acted, after, modes, accepted}
 use Rattle.governor_promises.specs.Counts.{gathered, bytes_avoided, batch_length, outcome_error, sum_of, added_to, changes}
-use Rattle.governor_promises.proofs.Answers.{Says, by-fault, by-same, newOf, by_answer}
+use Rattle.governor_promises.proofs.Answers.{Says, by-fault, by-same, new_of, by_answer}
 
 -- ---- lists
 
@@ -80,7 +80,7 @@ module _ (G : Tuning) where
         Tally t.counters (i + cond (differ s.mode t.mode) 1 0) (j + length (one bytes_avoided b a)) (k + sum_of (one bytes_avoided b a)) (n + length (one batch_length b a))
         (m + sum_of (one batch_length b a)) (o + length (one outcome_error b a))
 
-    observes : (now : ℕ) (x : Observation) → Next (observe now x) true (newOf G s now x)
+    observes : (now : ℕ) (x : Observation) → Next (observe now x) true (new_of G s now x)
     unfolding accepted_of sum_of
     observes now (sampled x) = omega (arith, raised (switches G s x) s.counters.mode_switches)
     observes now (counted e a) = omega (arith, raised (switches G s (sample_of s e a)) s.counters.mode_switches)

@@ -28,7 +28,7 @@ use Rattle.governor_promises.specs.Reading.{Observation, sampled, counted, Seen,
 use Rattle.governor_promises.specs.Calls.{Action, observe, move, outcome, choose, focus, snapshot, answer_of, acted, after}
 use Rattle.governor_promises.proofs.Thresholds.{source-apart}
 use Rattle.governor_promises.proofs.Turns.{at, grown, ends_in, window, turned, longer, by_turn}
-use Rattle.governor_promises.proofs.Answers.{by-fault, newOf, by_answer, snapshot-fault}
+use Rattle.governor_promises.proofs.Answers.{by-fault, new_of, by_answer, snapshot-fault}
 
 abbrev quiet : List Check → Type 0
 quiet cs = any_of (λ c. eqb c.number bad_state && c.found) cs ≡ false
@@ -63,7 +63,7 @@ module _ (G : Tuning) (exits : 0 < G.exit_emergency) (enters : 0 < G.enter_read_
   abbrev SoundIn : GovernorState → Type 0
   SoundIn s = Sound (at s.mode s.streaks)
 
-  accepted : (s : GovernorState) (now : ℕ) (o : Observation) → SoundIn s → SoundIn (newOf G s now o)
+  accepted : (s : GovernorState) (now : ℕ) (o : Observation) → SoundIn s → SoundIn (new_of G s now o)
   unfolding accepted_of
   accepted s now (sampled x) h = turns s.mode s.streaks (seen_of x (probed_of s.signals x)) h
   accepted s now (counted e a) h = turns s.mode s.streaks (seen_of (sample_of s e a) (probed_of s.signals (sample_of s e a))) h

@@ -28,7 +28,7 @@ use Rattle.governor_promises.specs.Reading.{Observation, sampled, counted}
 use Rattle.governor_promises.specs.Calls.{Action, observe, move, outcome, choose, focus, snapshot, EachCall, acted, after, accepted}
 use Rattle.governor_promises.specs.Counts.{gathered}
 use Rattle.governor_promises.specs.Times.{reading, highest_of, highest, ReadingFits, full_beside_time}
-use Rattle.governor_promises.proofs.Answers.{Says, by-fault, by-same, newOf, by_answer, snapshot-fault}
+use Rattle.governor_promises.proofs.Answers.{Says, by-fault, by-same, new_of, by_answer, snapshot-fault}
 use Rattle.governor_promises.proofs.Counts.{one, gather_one}
 
 -- ---- the highest of a list
@@ -83,7 +83,7 @@ module _ (G : Tuning) (start : ℕ) where
     still : Adds start (max high 0) s.times
     still = adds_same start s.times high _ (omega arith) h
 
-    observes : (now : ℕ) (o : Observation) → now < 2 ^ 64 → Next (observe now o) true (newOf G s now o)
+    observes : (now : ℕ) (o : Observation) → now < 2 ^ 64 → Next (observe now o) true (new_of G s now o)
     unfolding accepted_of highest_of
     observes now (sampled x) k = adds_same start _ (max high now) _ (omega arith) (times_add start high now s.mode s.times h k)
     observes now (counted e a) k = adds_same start _ (max high now) _ (omega arith) (times_add start high now s.mode s.times h k)

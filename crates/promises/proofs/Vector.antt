@@ -36,7 +36,7 @@ use Rattle.choice.specs.Choice.Refusal.{picked-refusal}
 use Rattle.governor_promises.specs.Reading.{Observation, sampled, counted}
 use Rattle.governor_promises.specs.Calls.{Action, observe, move, outcome, choose, focus, snapshot, acted, after, accepted, observed, observations}
 use Rattle.promises.specs.Vector.{InUnits, NoneBelow}
-use Rattle.governor_promises.proofs.Answers.{Says, by-fault, by-same, newOf, by_answer}
+use Rattle.governor_promises.proofs.Answers.{Says, by-fault, by-same, new_of, by_answer}
 
 abbrev RangedIn : GovernorState → Type 0
 RangedIn s = Ranged s.signals
@@ -64,7 +64,7 @@ parted (sampled x) os h = ((h.0, tt), h.1)
 parted (counted e a) os h = (tt, h)
 
 module _ (G : Tuning) (fraction : Signed false G.enter_fraction) (probed : Signed false G.enter_probed) where
-  observes : (s : GovernorState) (now : ℕ) (o : Observation) → RangedIn s → NoneBelow (o ∷ []) → RangedIn (newOf G s now o)
+  observes : (s : GovernorState) (now : ℕ) (o : Observation) → RangedIn s → NoneBelow (o ∷ []) → RangedIn (new_of G s now o)
   unfolding accepted_of
   observes s now (sampled x) r h = signals_ranged G fraction probed s.signals x r.probed r.debt h.0
   observes s now (counted e a) r h = signals_ranged G fraction probed s.signals (sample_of s e a) r.probed r.debt (per_get_lem s.window _ a r.probed)

@@ -7,8 +7,8 @@ use Rattle.records.specs.declared.tables.Table.{Table}
 use Rattle.records.specs.Tables.{tables_of, no_table}
 use Rattle.reliefs.proofs.level_bytes.Goals as goal
 
-abbrev hasLevel : ℕ → Table → Bool
-hasLevel level t = eqb t.level level
+abbrev has_level : ℕ → Table → Bool
+has_level level t = eqb t.level level
 
 -- a sum that stops may stop on the way
 on-the-way : (a b rest : ℕ) → saturating_add a (b + rest) ≡ saturating_add (saturating_add a b) rest
@@ -20,13 +20,13 @@ loop-i-init c = (omega arith, omega arith, omega arith)
 pub loop-i-preserved-then-t-level : goal.loop-i-preserved-then-t-level
 unfolding bytes_of
 loop-i-preserved-then-t-level c = let a = c.args in let l = c.loop-i in let t = c.table_at-t.ensures in
-    (omega arith, rw c.saturating_add-sum.ensures (omega arith), l.invariant.2 ∙ rw (filter-keep (hasLevel a.level) (tables_of a.tables.now) l.i no_table (omega arith) (rw t at (eq-eqb _ _ c.if-t-level.true)), c.saturating_add-sum.ensures, t) (on-the-way _ _ _))
+    (omega arith, rw c.saturating_add-sum.ensures (omega arith), l.invariant.2 ∙ rw (filter-keep (has_level a.level) (tables_of a.tables.now) l.i no_table (omega arith) (rw t at (eq-eqb _ _ c.if-t-level.true)), c.saturating_add-sum.ensures, t) (on-the-way _ _ _))
 
 pub loop-i-preserved : goal.loop-i-preserved
 loop-i-preserved c = let a = c.args in let l = c.loop-i in
-    (omega arith, l.invariant.1, l.invariant.2 ∙ rw (filter_skip (hasLevel a.level) (tables_of a.tables.now) l.i no_table (omega arith) (rw c.table_at-t.ensures at (ne_eqb _ _ c.if-t-level.false))))
+    (omega arith, l.invariant.1, l.invariant.2 ∙ rw (filter_skip (has_level a.level) (tables_of a.tables.now) l.i no_table (omega arith) (rw c.table_at-t.ensures at (ne_eqb _ _ c.if-t-level.false))))
 
 pub returns : goal.returns
 unfolding bytes_of
 returns c = let a = c.args in let l = c.loop-i in
-    let e = rw (filter-end (hasLevel a.level) (tables_of a.tables.now) l.i (omega arith)) at l.invariant.2 in omega (arith, e)
+    let e = rw (filter-end (has_level a.level) (tables_of a.tables.now) l.i (omega arith)) at l.invariant.2 in omega (arith, e)
