@@ -24,11 +24,11 @@ slice_bounds-put_many-end c = let ts = tables_of c.args.tables.now in
 
 pub slice_bounds-next-end : goal.slice_bounds-next-end
 slice_bounds-next-end c = let ts = tables_of c.args.tables.now in
-    (places-front ts 1 _ _ _ (ltb-false 1024 (length ts) (sym c.too_many_tables.ensures ∙ c.if-too_many_tables.false)) c.level_places-below.ensures).within
+    (places-front ts _ _ _ _ (ltb-false 1024 (length ts) (sym c.too_many_tables.ensures ∙ c.if-too_many_tables.false)) c.level_places-below.ensures).within
 
 pub slice_bounds-put_many-end-2 : goal.slice_bounds-put_many-end-2
 slice_bounds-put_many-end-2 c = let ts = tables_of c.args.tables.now in
-    (places-front ts 1 _ _ _ (ltb-false 1024 (length ts) (sym c.too_many_tables.ensures ∙ c.if-too_many_tables.false)) c.level_places-below.ensures).long
+    (places-front ts _ _ _ _ (ltb-false 1024 (length ts) (sym c.too_many_tables.ensures ∙ c.if-too_many_tables.false)) c.level_places-below.ensures).long
 
 pub returns : goal.returns
 returns c =
