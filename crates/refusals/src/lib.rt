@@ -1,5 +1,55 @@
-// The refusal numbers, named once. Of several faults a call gives the first in this order: 1, 10, 4, 5, 11, 6, 7, 8, 2, 3, 9. 12 to 15 are free.
+// The refusals and their numbers, named once. Of several faults a call gives the first in this order: 1, 10, 4, 5, 11, 6, 7, 8, 2, 3, 9. 12 to 15 are free.
 #![tactic(auto)]
+
+ghost use Rattle.std.specs.Prelude.{◌≡◌};
+ghost use Rattle.refusals.specs.Codes.{number_of, code};
+
+// Why a call gives no answer.
+#[derive(Clone, Copy, Debug, PartialEq, Eq)]
+pub enum Refusal {
+    BadState,
+    TooLarge,
+    CounterFull,
+    TooMany,
+    BadRecord,
+    BadLevel,
+    BadVector,
+    BadEstimate,
+    NoRoom,
+    BadLog,
+    DuplicateNumber,
+}
+
+// 01's number of the refusal.
+impl From<Refusal> for u64 {
+    ghost from_gives = { λ e n. n ≡ number_of e };
+
+    fn from(refusal: Refusal) -> u64 {
+        match refusal {
+            Refusal::BadState => BAD_STATE,
+            Refusal::TooLarge => TOO_LARGE,
+            Refusal::CounterFull => COUNTER_FULL,
+            Refusal::TooMany => TOO_MANY,
+            Refusal::BadRecord => BAD_RECORD,
+            Refusal::BadLevel => BAD_LEVEL,
+            Refusal::BadVector => BAD_VECTOR,
+            Refusal::BadEstimate => BAD_ESTIMATE,
+            Refusal::NoRoom => NO_ROOM,
+            Refusal::BadLog => BAD_LOG,
+            Refusal::DuplicateNumber => DUPLICATE_NUMBER,
+        }
+    }
+}
+
+// What C and the text of `replay` are told of an answer: its refusal's number, 0 for none.
+pub fn code<T: Copy>(answer: Result<T, Refusal>) -> u64
+    ensures { result ≡ code answer }
+{
+    match answer {
+        Ok(_) => NONE,
+        Err(refusal) => u64::from(refusal),
+    }
+}
 
 pub const NONE: u64 = 0;
 
