@@ -7,37 +7,25 @@ ghost use Rattle.counts.specs.Counts.{saturating_add, large, any_large};
 pub fn saturating_add(a: u64, b: u64) -> u64
     ensures { result ≡ saturating_add a b }
 {
-    if u64::MAX - a < b {
-        return u64::MAX;
-    }
-    a + b
+    a.saturating_add(b)
 }
 
 pub fn saturating_sub(a: u64, b: u64) -> u64
     ensures { result ≡ a - b }
 {
-    if a < b {
-        return 0;
-    }
-    a - b
+    a.saturating_sub(b)
 }
 
 pub fn at_least_one(n: u64) -> u64
     ensures { result ≡ max n 1 }
 {
-    if n < 1 {
-        return 1;
-    }
-    n
+    n.max(1)
 }
 
 pub fn smaller(a: usize, b: usize) -> usize
     ensures { result ≡ min a b }
 {
-    if b < a {
-        return b;
-    }
-    a
+    a.min(b)
 }
 
 // A count that a binary64 may not hold.
