@@ -20,84 +20,61 @@ pub fn too_many_candidates(candidates: &[u64]) -> bool
 pub fn too_many_numbers(candidates: &[u64]) -> bool
     ensures { result ≡ any_of too_many_numbers (candidates_of candidates.now) }
 {
-    let n = candidate_records::candidate_count(candidates);
-    let mut over = false;
-    let mut i: usize = 0;
-    while i < n {
-        let c = candidate_records::candidate_at(candidates, i);
-        over = over | (limits::MAX_NUMBERS < c.count);
-        i += 1;
-    }
-    over
+    (0..candidate_records::candidate_count(candidates)).any(|place| {
+        let c = candidate_records::candidate_at(candidates, place);
+        limits::MAX_NUMBERS < c.count
+    })
 }
 
 // Whole records, kinds, levels and batch lengths; starts and counts are not looked at.
 pub fn broken_candidates(candidates: &[u64]) -> bool
     ensures { result ≡ broken_candidates candidates.now }
 {
-    let n = candidate_records::candidate_count(candidates);
-    let mut broken = candidates.len() % 6 != 0;
-    let mut i: usize = 0;
-    while i < n {
-        let c = candidate_records::candidate_at(candidates, i);
-        broken = broken | !fits_kind(c);
-        i += 1;
-    }
-    broken
+    candidates.len() % 6 != 0
+        || (0..candidate_records::candidate_count(candidates)).any(|place| {
+            let c = candidate_records::candidate_at(candidates, place);
+            !fits_kind(c)
+        })
 }
 
 // Some candidate's start and count reach past the number list, which is `numbers` long.
 pub fn numbers_out(candidates: &[u64], numbers: u64) -> bool
     ensures { result ≡ any_of (numbers_out numbers) (candidates_of candidates.now) }
 {
-    let n = candidate_records::candidate_count(candidates);
-    let mut out = false;
-    let mut i: usize = 0;
-    while i < n {
-        let c = candidate_records::candidate_at(candidates, i);
-        out = out | part_out(c.start, c.count, numbers);
-        i += 1;
-    }
-    out
+    (0..candidate_records::candidate_count(candidates)).any(|place| {
+        let c = candidate_records::candidate_at(candidates, place);
+        part_out(c.start, c.count, numbers)
+    })
 }
 
 // Some estimate has a relief outside 0 to 1, or too large a rewrite or age.
 pub fn estimates_out(estimates: &[u64]) -> bool
     ensures { result ≡ any_of estimate_out (estimates_of estimates.now) }
 {
-    let n = candidate_records::estimate_count(estimates);
-    let mut out = false;
-    let mut i: usize = 0;
-    while i < n {
-        let e = candidate_records::estimate_at(estimates, i);
+    (0..candidate_records::estimate_count(estimates)).any(|place| {
+        let e = candidate_records::estimate_at(estimates, place);
         let inside = all_in_unit(e.l0_relief, e.debt_relief, e.read_relief);
         let large = (limits::MAX_REWRITE < e.estimated_rewrite_bytes) | (limits::MAX_AGE < e.age);
-        out = out | (!inside | large);
-        i += 1;
-    }
-    out
+        !inside | large
+    })
 }
 
 // Whether the level and the batch length are such as the kind allows.
+#[tactic(auto, unfolding(crate::specs::Candidates::fits_kind))]
 fn fits_kind(c: Candidate) -> bool
     ensures { result ≡ fits_kind c }
 {
-    let kind = c.kind;
-    let level = c.level;
     let batch = c.batch_len;
-    if kind == 1 {
-        return (level == 0) & (batch == 0);
+    match c.kind {
+        1 => (c.level == 0) & (batch == 0),
+        2 => (c.level <= limits::MAX_LEVEL) & ((1 <= batch) & (batch <= limits::MAX_BATCH)),
+        3 => (c.level <= limits::MAX_LEVEL) & (batch == 0),
+        _ => false,
     }
-    if kind == 2 {
-        return (level <= limits::MAX_LEVEL) & ((1 <= batch) & (batch <= limits::MAX_BATCH));
-    }
-    if kind == 3 {
-        return (level <= limits::MAX_LEVEL) & (batch == 0);
-    }
-    false
 }
 
 // A NaN is in no range, and -0.0 is in this one.
+#[tactic(auto, unfolding(crate::specs::Candidates::in_unit))]
 fn in_unit(x: f64) -> bool
     ensures { result ≡ in_unit x }
 {

@@ -15,15 +15,11 @@ pub fn too_many_tables(tables: &[u64]) -> bool
 pub fn broken_tables(tables: &[u64]) -> bool
     ensures { result ≡ broken_tables tables.now }
 {
-    let n = tables::table_count(tables);
-    let mut broken = tables.len() % 7 != 0;
-    let mut i: usize = 0;
-    while i < n {
-        let t = tables::table_at(tables, i);
-        broken = broken | ((limits::MAX_LEVEL < t.level) | (limits::MAX_SIZE < t.size));
-        i += 1;
-    }
-    broken
+    tables.len() % 7 != 0
+        || (0..tables::table_count(tables)).any(|place| {
+            let t = tables::table_at(tables, place);
+            (limits::MAX_LEVEL < t.level) | (limits::MAX_SIZE < t.size)
+        })
 }
 
 // Some table's first or last key reaches past the key bytes.
@@ -31,17 +27,10 @@ pub fn broken_keys(tables: &[u64], keys: &[u8]) -> bool
     ensures { result ≡ broken_keys (length keys.now) tables.now }
 {
     let size = keys.len() as u64;
-    let n = tables::table_count(tables);
-    let mut broken = false;
-    let mut i: usize = 0;
-    while i < n {
-        let t = tables::table_at(tables, i);
-        broken = broken
-            | (part_out(t.first_start, t.first_len, size)
-                | part_out(t.last_start, t.last_len, size));
-        i += 1;
-    }
-    broken
+    (0..tables::table_count(tables)).any(|place| {
+        let t = tables::table_at(tables, place);
+        part_out(t.first_start, t.first_len, size) | part_out(t.last_start, t.last_len, size)
+    })
 }
 
 pub fn too_many_entries(over: &[u64]) -> bool
@@ -59,15 +48,10 @@ pub fn broken_entries(over: &[u64]) -> bool
 pub fn levels_out(over: &[u64]) -> bool
     ensures { result ≡ levels_out over.now }
 {
-    let n = tables::entry_count(over);
-    let mut out = false;
-    let mut i: usize = 0;
-    while i < n {
-        let e = tables::entry_at(over, i);
-        out = out | (limits::MAX_OVER_LEVEL < e.level);
-        i += 1;
-    }
-    out
+    (0..tables::entry_count(over)).any(|place| {
+        let e = tables::entry_at(over, place);
+        limits::MAX_OVER_LEVEL < e.level
+    })
 }
 
 // Too many tables or entries, or a level with none below.
@@ -82,11 +66,5 @@ pub fn past_limits(tables: &[u64], over: &[u64]) -> bool
 pub fn part_out(start: u64, len: u64, size: u64) -> bool
     ensures { result ≡ part_out size start len }
 {
-    if start <= size {
-        if size - start < len {
-            return true;
-        }
-        return false;
-    }
-    true
+    size < start || size - start < len
 }

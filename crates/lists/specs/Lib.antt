@@ -1,6 +1,7 @@
 -- Lists, below everyone: tests, the search for one, filters, records in words, a stable sort, and the front of a buffer.
 pub mod Tests
 pub mod Any
+pub mod AnyPlace
 pub mod Filter
 pub mod Twice
 pub mod Flat

@@ -1,14 +1,10 @@
 -- `candidate_faults::numbers_out` meets its contract.
-use Rattle.std.proofs.Common.{arith}
-use Rattle.lists.specs.Any.{test-start, test-next, test-end}
-use Rattle.candidate_records.specs.Candidates.{no_candidate}
+use Rattle.std.proofs.Common.{rules, tests, refl}
+use Rattle.lists.specs.AnyPlace.{any_place}
+use Rattle.candidate_records.specs.Candidates.{candidates_of, no_candidate}
+use Rattle.candidate_faults.specs.Candidates.{numbers_out}
 use Rattle.candidate_faults.proofs.numbers_out.Goals as goal
 
-pub loop-i-preserved : goal.loop-i-preserved
-loop-i-preserved c = rw (c.part_out-out.ensures, c.candidate_at-c.ensures) (test-next c.loop-i.invariant no_candidate (omega arith))
-
 pub returns : goal.returns
-returns c = test-end c.loop-i.invariant (omega arith)
-
-pub loop-i-init : goal.loop-i-init
-loop-i-init c = test-start
+returns c =
+    any_place (numbers_out c.args.numbers) (candidates_of c.args.candidates.now) no_candidate _ _ _ _ refl c.candidate_count.ensures c.any.ensures.ran (λ x b q k. search (rules, tests))

@@ -1,16 +1,11 @@
 -- `faults::tables::broken_keys` meets its contract.
-use Rattle.std.proofs.Common.{arith}
-use Rattle.lists.specs.Any.{test-start, test-next, test-end}
-use Rattle.records.specs.Tables.{no_table}
-use Rattle.faults.specs.Tables.{broken_keys}
+use Rattle.std.proofs.Common.{rules, tests, refl, length}
+use Rattle.lists.specs.AnyPlace.{any_place}
+use Rattle.records.specs.Tables.{tables_of, no_table}
+use Rattle.faults.specs.Tables.{keys_broken, broken_keys}
 use Rattle.faults.proofs.tables.broken_keys.Goals as goal
 
-pub loop-i-init : goal.loop-i-init
-unfolding broken_keys
-loop-i-init c = test-start
-
-pub loop-i-preserved : goal.loop-i-preserved
-loop-i-preserved c = rw (c.part_out-in-loop-i.ensures, c.part_out.ensures, c.table_at-t.ensures) (test-next c.loop-i.invariant no_table (omega arith))
-
 pub returns : goal.returns
-returns c = test-end c.loop-i.invariant (omega arith)
+unfolding broken_keys
+returns c =
+    any_place (keys_broken (length c.args.keys.now)) (tables_of c.args.tables.now) no_table _ _ _ _ refl c.table_count.ensures c.any.ensures.ran (λ x b q k. search (rules, tests))

@@ -1,16 +1,15 @@
 -- `faults::tables::broken_tables` meets its contract.
-use Rattle.std.proofs.Common.{arith}
-use Rattle.lists.specs.Any.{test-start, test-next, test-end}
-use Rattle.records.specs.Tables.{no_table}
-use Rattle.faults.specs.Tables.{broken_tables}
+use Rattle.std.proofs.Common.{rules, tests, refl, ◌∙◌, ne_eqb, eq-eqb}
+use Rattle.lists.specs.AnyPlace.{any_place}
+use Rattle.records.specs.Tables.{tables_of, no_table}
+use Rattle.faults.specs.Tables.{table_broken, broken_tables}
 use Rattle.faults.proofs.tables.broken_tables.Goals as goal
 
-pub loop-i-init : goal.loop-i-init
+pub returns-then-tables-ne0 : goal.returns-then-tables-ne0
 unfolding broken_tables
-loop-i-init c = test-start
+returns-then-tables-ne0 c = rw (ne_eqb _ 0 c.if-tables-ne0.true)
 
-pub loop-i-preserved : goal.loop-i-preserved
-loop-i-preserved c = rw c.table_at-t.ensures (test-next c.loop-i.invariant no_table (omega arith))
-
-pub returns : goal.returns
-returns c = test-end c.loop-i.invariant (omega arith)
+pub returns-else-tables-ne0 : goal.returns-else-tables-ne0
+unfolding broken_tables
+returns-else-tables-ne0 c =
+    any_place table_broken (tables_of c.args.tables.now) no_table _ _ _ _ refl c.table_count.ensures c.any.ensures.ran (λ x b q k. search (rules, tests)) ∙ rw (eq-eqb _ 0 c.if-tables-ne0.false)
