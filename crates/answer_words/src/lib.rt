@@ -176,6 +176,6 @@ pub fn picked_words(p: Picked) -> [u64; 6]
         f.flag,
         f.level,
         focus.streak as u64,
-        tier.number(),
+        u64::from(tier),
     ]
 }

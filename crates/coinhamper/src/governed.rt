@@ -235,5 +235,5 @@ pub extern "C" fn coinhamper_dominant(l0: f64, deep_debt: f64, read: f64) -> u64
         deep_debt,
         read,
     };
-    vector.dominant().number()
+    u64::from(vector.dominant())
 }

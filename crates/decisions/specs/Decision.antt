@@ -1,7 +1,7 @@
 -- A decision and its fourteen words: sequence, three pressures, dominant, tier, candidates considered, chosen kind, level, batch length, predicted bytes, three reliefs. Definitions only.
 pub mod Good
 pub mod RoundTrip
-use Rattle.std.specs.Prelude.{ℕ, ◌+◌, ◌-◌, ◌^◌, Bool, false, cond, ◌&&◌, List, [], ◌∷◌, length, get_or, leb, ltb, eqb}
+use Rattle.std.specs.Prelude.{Option, None, Some, ℕ, ◌+◌, ◌-◌, ◌^◌, Bool, false, cond, ◌&&◌, List, [], ◌∷◌, length, get_or, leb, ltb, eqb}
 use Rattle.std.specs.Float.{binary64}
 use Rattle.std.specs.Float.Ieee.{of_bits, to_bits}
 use Rattle.kinds.specs.declared.vector.PressureVector.{PressureVector}
@@ -10,8 +10,8 @@ use Rattle.kinds.specs.declared.vector.PressureSource.TheVariants as Source
 use Rattle.kinds.specs.Numbers.{dominant_number, tier_number, kind_number, kind_level, kind_length}
 use Rattle.kinds.specs.declared.tier.SelectionTier.{SelectionTier}
 use Rattle.kinds.specs.declared.tier.SelectionTier.TheVariants as Tier
-use Rattle.kinds.specs.declared.kind.ChosenKind.{ChosenKind}
-use Rattle.kinds.specs.declared.kind.ChosenKind.TheVariants.{None as Nothing, L0, LevelBatch, TrivialMove}
+use Rattle.kinds.specs.declared.kind.CandidateKind.{CandidateKind}
+use Rattle.kinds.specs.declared.kind.CandidateKind.TheVariants.{L0, LevelBatch, TrivialMove}
 use Rattle.decisions.specs.declared.SchedulingDecision.{SchedulingDecision}
 use Rattle.decisions.specs.declared.DecisionRead.{DecisionRead}
 use Rattle.decisions.specs.declared.DecisionRead.TheVariants.{Decision, None as NoDecision}
@@ -51,12 +51,12 @@ source_from n = case_of n Source.None Source.L0 Source.DeepDebt Source.Read
 unfoldable pub tier_from : ℕ → SelectionTier
 tier_from n = case_of n Tier.None Tier.L0 Tier.FocusContinued Tier.FocusReselected
 
-unfoldable pub kind_from : ℕ → ℕ → ℕ → ChosenKind
-kind_from k l n = case_of k Nothing L0 (LevelBatch l n) (TrivialMove l)
+unfoldable pub kind_from : ℕ → ℕ → ℕ → Option CandidateKind
+kind_from k l n = case_of k None (Some L0) (Some (LevelBatch l n)) (Some (TrivialMove l))
 
 -- the kind that three words say, and none where they say no kind
-unfoldable pub chosen_from : ℕ → ℕ → ℕ → ChosenKind
-chosen_from k l n = cond (chosen_good k l n) (kind_from k l n) Nothing
+unfoldable pub chosen_from : ℕ → ℕ → ℕ → Option CandidateKind
+chosen_from k l n = cond (chosen_good k l n) (kind_from k l n) None
 
 -- three floats, one to each pressure, from a word on
 abbrev pub floats_at : List ℕ → ℕ → PressureVector

@@ -4,7 +4,7 @@
 ghost use Rattle.std.specs.Prelude.{◌≡◌, ◌+◌, ◌-◌, ◌^◌, ◌≤◌, length, get_or};
 ghost use Rattle.decisions.specs.Decision.{decision_width, decision_words, source_from, tier_from, chosen_good, is_decision, kind_from, chosen_from, floats_at, decision_in, read_of};
 
-use kinds::kind::ChosenKind;
+use kinds::kind::CandidateKind;
 use kinds::tier::SelectionTier;
 use kinds::vector::{PressureSource, PressureVector};
 
@@ -18,7 +18,7 @@ pub struct SchedulingDecision {
     pub dominant: PressureSource,
     pub tier: SelectionTier,
     pub candidates_considered: u64,
-    pub chosen: ChosenKind,
+    pub chosen: Option<CandidateKind>,
     pub predicted_rewrite_bytes: u64,
     pub l0_relief: f64,
     pub debt_relief: f64,
@@ -54,41 +54,37 @@ pub fn tier_of(n: u64) -> SelectionTier
     }
 }
 
-fn kind_of(kind: u64, level: u64, length: u64) -> ChosenKind
+fn kind_of(kind: u64, level: u64, length: u64) -> Option<CandidateKind>
     requires { level ≤ 2 ^ 32 - 1 }
     ensures { result ≡ kind_from kind level length }
 {
     match kind {
-        0 => ChosenKind::None,
-        1 => ChosenKind::L0,
-        2 => ChosenKind::LevelBatch {
+        0 => None,
+        1 => Some(CandidateKind::L0),
+        2 => Some(CandidateKind::LevelBatch {
             level: level as u32,
             batch_len: length,
-        },
-        _ => ChosenKind::TrivialMove {
+        }),
+        _ => Some(CandidateKind::TrivialMove {
             level: level as u32,
-        },
+        }),
     }
 }
 
 pub fn to_words(d: SchedulingDecision) -> [u64; DECISION_WIDTH]
     ensures { result ≡ decision_words d }
 {
-    let pressure = d.pressure;
-    let dominant = d.dominant;
-    let tier = d.tier;
-    let chosen = d.chosen;
     [
         d.sequence,
-        arith::floats::to_bits(pressure.l0),
-        arith::floats::to_bits(pressure.deep_debt),
-        arith::floats::to_bits(pressure.read),
-        dominant.number(),
-        tier.number(),
+        arith::floats::to_bits(d.pressure.l0),
+        arith::floats::to_bits(d.pressure.deep_debt),
+        arith::floats::to_bits(d.pressure.read),
+        u64::from(d.dominant),
+        u64::from(d.tier),
         d.candidates_considered,
-        chosen.number(),
-        chosen.level(),
-        chosen.batch_len(),
+        d.chosen.map_or(0, u64::from),
+        d.chosen.map_or(0, CandidateKind::level),
+        d.chosen.map_or(0, CandidateKind::batch_len),
         d.predicted_rewrite_bytes,
         arith::floats::to_bits(d.l0_relief),
         arith::floats::to_bits(d.debt_relief),
@@ -109,13 +105,13 @@ fn chosen_good(kind: u64, level: u64, length: u64) -> bool
 }
 
 // The chosen kind that a candidate's kind, level and batch length say; none where they say no kind.
-pub fn chosen_kind(kind: u64, level: u64, length: u64) -> ChosenKind
+pub fn chosen_kind(kind: u64, level: u64, length: u64) -> Option<CandidateKind>
     ensures { result ≡ chosen_from kind level length }
 {
     if chosen_good(kind, level, length) {
         return kind_of(kind, level, length);
     }
-    ChosenKind::None
+    None
 }
 
 pub fn is_decision(words: &[u64]) -> bool

@@ -1,5 +1,5 @@
 -- 01's number, and its values, for each case of an enum. Definitions only.
-use Rattle.std.specs.Prelude.{ℕ, List, [], ◌∷◌}
+use Rattle.std.specs.Prelude.{ℕ, List, [], ◌∷◌, Option, None, Some}
 use Rattle.kinds.specs.declared.mode.GovernorMode.{GovernorMode}
 use Rattle.kinds.specs.declared.mode.GovernorMode.TheVariants.{Balanced, ReadProtect, WriteEmergency}
 use Rattle.kinds.specs.declared.vector.PressureSource.{PressureSource}
@@ -10,8 +10,8 @@ use Rattle.kinds.specs.declared.winner.Winner.{Winner}
 use Rattle.kinds.specs.declared.winner.Winner.TheVariants as Winning
 use Rattle.kinds.specs.declared.tier.SelectionTier.{SelectionTier}
 use Rattle.kinds.specs.declared.tier.SelectionTier.TheVariants as Tier
-use Rattle.kinds.specs.declared.kind.ChosenKind.{ChosenKind}
-use Rattle.kinds.specs.declared.kind.ChosenKind.TheVariants as Chosen
+use Rattle.kinds.specs.declared.kind.CandidateKind.{CandidateKind}
+use Rattle.kinds.specs.declared.kind.CandidateKind.TheVariants as Kind
 
 abbrev pub mode_number : GovernorMode → ℕ
 mode_number Balanced = 0
@@ -40,21 +40,21 @@ abbrev pub winner_numbers : Winner → List ℕ
 winner_numbers Winning.None = 0 ∷ 0 ∷ []
 winner_numbers (Winning.At k) = 1 ∷ k ∷ []
 
--- the number, level and length of what was chosen; a level or length that the kind lacks is 0
-abbrev pub kind_number : ChosenKind → ℕ
-kind_number Chosen.None = 0
-kind_number Chosen.L0 = 1
-kind_number (Chosen.LevelBatch l n) = 2
-kind_number (Chosen.TrivialMove l) = 3
+-- the number, level and length of what was chosen, 0 for none; a level or length that the kind lacks is 0
+abbrev pub kind_number : Option CandidateKind → ℕ
+kind_number None = 0
+kind_number (Some Kind.L0) = 1
+kind_number (Some (Kind.LevelBatch l n)) = 2
+kind_number (Some (Kind.TrivialMove l)) = 3
 
-abbrev pub kind_level : ChosenKind → ℕ
-kind_level Chosen.None = 0
-kind_level Chosen.L0 = 0
-kind_level (Chosen.LevelBatch l n) = l
-kind_level (Chosen.TrivialMove l) = l
+abbrev pub kind_level : Option CandidateKind → ℕ
+kind_level None = 0
+kind_level (Some Kind.L0) = 0
+kind_level (Some (Kind.LevelBatch l n)) = l
+kind_level (Some (Kind.TrivialMove l)) = l
 
-abbrev pub kind_length : ChosenKind → ℕ
-kind_length Chosen.None = 0
-kind_length Chosen.L0 = 0
-kind_length (Chosen.LevelBatch l n) = n
-kind_length (Chosen.TrivialMove l) = 0
+abbrev pub kind_length : Option CandidateKind → ℕ
+kind_length None = 0
+kind_length (Some Kind.L0) = 0
+kind_length (Some (Kind.LevelBatch l n)) = n
+kind_length (Some (Kind.TrivialMove l)) = 0

@@ -2,15 +2,16 @@
 ghost use Rattle.std.specs.Prelude.{◌≡◌};
 ghost use Rattle.kinds.specs.Numbers.{mode_number};
 
-#[derive(Clone, Copy)]
+#[derive(Debug, Clone, Copy, PartialEq, Eq, Default)]
 pub enum GovernorMode {
+    #[default]
     Balanced,
     ReadProtect,
     WriteEmergency,
 }
 
 impl GovernorMode {
-    // 01's number of the mode.
+    // 01's number of the mode; governor.rs's method.
     pub fn idx(self) -> u64
         ensures { result ≡ mode_number self }
     {

@@ -2,19 +2,21 @@
 ghost use Rattle.std.specs.Prelude.{◌≡◌};
 ghost use Rattle.kinds.specs.Numbers.{tier_number};
 
-#[derive(Clone, Copy)]
+#[derive(Debug, Clone, Copy, PartialEq, Eq, Default)]
 pub enum SelectionTier {
+    #[default]
     None,
     L0,
     FocusContinued,
     FocusReselected,
 }
 
-impl SelectionTier {
-    pub fn number(self) -> u64
-        ensures { result ≡ tier_number self }
-    {
-        match self {
+// 01's number of the tier.
+impl From<SelectionTier> for u64 {
+    ghost from_gives = { λ t n. n ≡ tier_number t };
+
+    fn from(tier: SelectionTier) -> u64 {
+        match tier {
             SelectionTier::None => 0,
             SelectionTier::L0 => 1,
             SelectionTier::FocusContinued => 2,

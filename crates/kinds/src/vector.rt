@@ -3,26 +3,28 @@ ghost use Rattle.std.specs.Prelude.{◌≡◌};
 ghost use Rattle.kinds.specs.Vector.{dominant_of};
 ghost use Rattle.kinds.specs.Numbers.{dominant_number};
 
-#[derive(Clone, Copy)]
+#[derive(Debug, Clone, Copy, Default, PartialEq)]
 pub struct PressureVector {
     pub l0: f64,
     pub deep_debt: f64,
     pub read: f64,
 }
 
-#[derive(Clone, Copy)]
+#[derive(Debug, Clone, Copy, PartialEq, Eq, Default)]
 pub enum PressureSource {
+    #[default]
     None,
     L0,
     DeepDebt,
     Read,
 }
 
-impl PressureSource {
-    pub fn number(self) -> u64
-        ensures { result ≡ dominant_number self }
-    {
-        match self {
+// 01's number of the source.
+impl From<PressureSource> for u64 {
+    ghost from_gives = { λ s n. n ≡ dominant_number s };
+
+    fn from(source: PressureSource) -> u64 {
+        match source {
             PressureSource::None => 0,
             PressureSource::L0 => 1,
             PressureSource::DeepDebt => 2,

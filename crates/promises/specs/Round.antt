@@ -1,12 +1,11 @@
 -- One round, from an observed state and table words to a logged decision: the calls in their order, each on the words that the one before it wrote.
-use Rattle.std.specs.Prelude.{ℕ, ◌+◌, ◌-◌, ◌*◌, ◌^◌, ◌<◌, ◌≡◌, true, false, ltb, length, drop}
+use Rattle.std.specs.Prelude.{Option, None as Nothing, ℕ, ◌+◌, ◌-◌, ◌*◌, ◌^◌, ◌<◌, ◌≡◌, true, false, ltb, length, drop}
 use mathlib.Core.List.{List, [], ◌∷◌, ◌++◌, map, Memᴰ}
 use Rattle.refusals.specs.Refusals.{◌gives◌, first_fault, none, too_large, counter_full, too_many, bad_record, bad_level, no_room, bad_log, duplicate_number}
 use Rattle.kinds.specs.declared.vector.PressureVector.{PressureVector}
 use Rattle.kinds.specs.declared.tier.SelectionTier.TheVariants.{None as NoTier}
 use Rattle.kinds.specs.declared.winner.Winner.TheVariants.{None as NoWinner, At}
-use Rattle.kinds.specs.declared.kind.ChosenKind.{ChosenKind}
-use Rattle.kinds.specs.declared.kind.ChosenKind.TheVariants.{None as Nothing}
+use Rattle.kinds.specs.declared.kind.CandidateKind.{CandidateKind}
 use Rattle.kinds.specs.Numbers.{kind_number, kind_level, kind_length}
 use Rattle.candidate_records.specs.declared.Candidate.{Candidate}
 use Rattle.candidate_records.specs.Candidates.{candidates_of, candidate_at}
@@ -74,7 +73,7 @@ module _ (r : RoundInput) where
   candidates = candidates_of (candidate_words r.lent)
 
 -- a kind is the one that a candidate's words say
-pub record Says (c : Candidate) (k : ChosenKind) : Type 0 where
+pub record Says (c : Candidate) (k : Option CandidateKind) : Type 0 where
   pub kind : kind_number k ≡ c.kind
   pub level : kind_level k ≡ c.level
   pub batch_len : kind_length k ≡ c.batch_len

@@ -44,7 +44,7 @@ fn line_numbers(number: u64, o: Observed) -> [u64; 5]
     let mode = s.mode();
     let dominant = s.pressure_vector().dominant();
     let delay = pressure::pacing::pacing_delay(mode, s.pressure());
-    [number, o.refusal, mode.idx(), dominant.number(), delay]
+    [number, o.refusal, mode.idx(), u64::from(dominant), delay]
 }
 
 // Writes the whole output as far as the buffer goes, and answers its length.

@@ -92,7 +92,7 @@ fn numbers(call: u64, args: &[u64; WORDS]) -> [u64; 3] {
             0,
             0,
         ],
-        31 => [v.dominant().number(), 0, 0],
+        31 => [u64::from(v.dominant()), 0, 0],
         32 => [s.mode().idx(), 0, 0],
         33 => [floats::to_bits(s.pressure()), 0, 0],
         34 => states::vector_words(s.pressure_vector()),

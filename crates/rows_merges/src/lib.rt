@@ -7,7 +7,6 @@ use arith::floats;
 use candidate_records::CandidateEstimate;
 use choice::Picked;
 use estimates::Estimated;
-use kinds::tier::SelectionTier;
 use kinds::winner::Winner;
 use rows_state::states;
 use rows_state::states::float;
@@ -78,7 +77,6 @@ fn picked(args: &[u64; WORDS]) -> [u64; SHORT] {
     let winner = p.winner;
     let won = winner_words(winner);
     let focus = states::focus_words(p.focus);
-    let tier = p.tier;
     words::told(
         &[
             p.refusal,
@@ -87,7 +85,7 @@ fn picked(args: &[u64; WORDS]) -> [u64; SHORT] {
             focus[0],
             focus[1],
             focus[2],
-            tier.number(),
+            u64::from(p.tier),
         ],
         &[],
     )
@@ -102,15 +100,6 @@ fn winner_of(won: u64, place: u64) -> Winner {
     Winner::At(place as usize)
 }
 
-fn tier_of(n: u64) -> SelectionTier {
-    match n {
-        0 => SelectionTier::None,
-        1 => SelectionTier::L0,
-        2 => SelectionTier::FocusContinued,
-        _ => SelectionTier::FocusReselected,
-    }
-}
-
 fn decision(args: &[u64; WORDS]) -> [u64; SHORT] {
     let d = trace::scheduling_decision(
         states::vector_at(args, 0),
@@ -118,7 +107,7 @@ fn decision(args: &[u64; WORDS]) -> [u64; SHORT] {
             refusal: word(args, 3),
             winner: winner_of(word(args, 4), word(args, 5)),
             focus: states::focus_at(args, 6),
-            tier: tier_of(word(args, 9)),
+            tier: decisions::tier_of(word(args, 9)),
         },
         words::part(args, 10),
         words::part(args, words::after(args, 10, 1)),

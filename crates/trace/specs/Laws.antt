@@ -1,10 +1,9 @@
 -- A decision made of a choice is always one in the log's sense, and says the kind that the winner's words say.
-use Rattle.std.specs.Prelude.{◌≡◌, true, List, ℕ, ◌-◌, ◌^◌, ◌≤◌}
+use Rattle.std.specs.Prelude.{◌≡◌, true, List, ℕ, ◌-◌, ◌^◌, ◌≤◌, Option, None as Nothing}
 use Rattle.std.proofs.Common.{arith}
 use Rattle.lists.specs.Tests.{by-test}
 use Rattle.kinds.specs.declared.vector.PressureVector.{PressureVector}
-use Rattle.kinds.specs.declared.kind.ChosenKind.{ChosenKind}
-use Rattle.kinds.specs.declared.kind.ChosenKind.TheVariants.{None as Nothing}
+use Rattle.kinds.specs.declared.kind.CandidateKind.{CandidateKind}
 use Rattle.kinds.specs.declared.winner.Winner.TheVariants.{None, At}
 use Rattle.kinds.specs.Numbers.{kind_number, kind_level, kind_length}
 use Rattle.candidate_records.specs.Candidates.{candidates_of, candidate_at}
@@ -18,7 +17,7 @@ use Rattle.trace.specs.Trace.{decision_for, decision_of}
 level-low : (k l n : ℕ) → kind_level (chosen_from k l n) ≤ 2 ^ 32 - 1
 unfolding chosen_from
 level-low k l n =
-    by-test (λ (c : ChosenKind). kind_level c ≤ 2 ^ 32 - 1) (chosen_good k l n) _ _ (λ e. rw (kind-again k l n e).1 (kind-small k l n e).1) (λ e. omega arith)
+    by-test (λ (c : Option CandidateKind). kind_level c ≤ 2 ^ 32 - 1) (chosen_good k l n) _ _ (λ e. rw (kind-again k l n e).1 (kind-small k l n e).1) (λ e. omega arith)
 
 module _ (v : PressureVector) (p : Picked) (cw ew : List ℕ) where
   pub decision-low : kind_level (decision_of v p cw ew).chosen ≤ 2 ^ 32 - 1

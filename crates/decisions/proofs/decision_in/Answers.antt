@@ -1,14 +1,14 @@
 -- `decisions::decision_in` meets its contract.
-use Rattle.std.proofs.Common.{◌≡◌, List, ℕ, get_or}
+use Rattle.std.proofs.Common.{◌≡◌, List, ℕ, get_or, Option}
 use Rattle.kinds.specs.declared.vector.PressureVector.{PressureVector}
 use Rattle.kinds.specs.declared.vector.PressureSource.{PressureSource}
 use Rattle.kinds.specs.declared.tier.SelectionTier.{SelectionTier}
-use Rattle.kinds.specs.declared.kind.ChosenKind.{ChosenKind}
+use Rattle.kinds.specs.declared.kind.CandidateKind.{CandidateKind}
 use Rattle.decisions.specs.Decision.{floats_at, source_from, tier_from, kind_from, decision_in}
 use Rattle.decisions.proofs.decision_in.Goals as goal
 
 -- by the parts that are worked out apart
-in_parts : (ws : List ℕ) {p r : PressureVector} {s : PressureSource} {t : SelectionTier} {k : ChosenKind}
+in_parts : (ws : List ℕ) {p r : PressureVector} {s : PressureSource} {t : SelectionTier} {k : Option CandidateKind}
     → r ≡ floats_at ws 11 → p ≡ floats_at ws 1 → s ≡ source_from (get_or ws 4 0) → t ≡ tier_from (get_or ws 5 0) → k ≡ kind_from (get_or ws 7 0) (get_or ws 8 0) (get_or ws 9 0) → record {
       sequence = get_or ws 0 0;
       pressure = p;

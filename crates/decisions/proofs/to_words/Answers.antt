@@ -1,5 +1,6 @@
 -- `decisions::to_words` meets its contract.
-use Rattle.std.proofs.Common.{◌≡◌, [], ◌∷◌, ℕ}
+use Rattle.std.proofs.Common.{◌≡◌, [], ◌∷◌, ℕ, refl, sym, ◌∙◌, Option, None, Some, MatchOption}
+use Rattle.kinds.specs.declared.kind.CandidateKind.{CandidateKind}
 use lib.Ieee.{binary64, to_bits}
 use Rattle.kinds.specs.Numbers.{dominant_number, tier_number, kind_number, kind_level, kind_length}
 use Rattle.decisions.specs.declared.SchedulingDecision.{SchedulingDecision}
@@ -14,5 +15,10 @@ in_parts : (d : SchedulingDecision) {a b c e f g h i j k l : ℕ}
 unfolding decision_words
 in_parts d a b c e f g h i j k l = rw (a, b, c, e, f, g, h, i, j, k, l)
 
+-- what is chosen, by its number, level or length
+told : (f : Option CandidateKind → ℕ) (k : Option CandidateKind) {n : ℕ} → f None ≡ 0 → MatchOption k (n ≡ 0) (λ x. n ≡ f (Some x)) → n ≡ f k
+told f None z h = h ∙ sym z
+told f (Some x) z h = h
+
 pub returns : goal.returns
-returns c = in_parts c.args.d c.to_bits.ensures c.to_bits-2.ensures c.to_bits-3.ensures c.number.ensures c.number-2.ensures c.number-3.ensures c.level.ensures c.batch_len.ensures c.to_bits-4.ensures c.to_bits-5.ensures c.to_bits-6.ensures
+returns c = in_parts c.args.d c.to_bits.ensures c.to_bits-2.ensures c.to_bits-3.ensures c.from.ensures c.from-2.ensures (told kind_number c.args.d.chosen refl c.map_or.ensures) (told kind_level c.args.d.chosen refl c.map_or-2.ensures) (told kind_length c.args.d.chosen refl c.map_or-3.ensures) c.to_bits-4.ensures c.to_bits-5.ensures c.to_bits-6.ensures

@@ -1,5 +1,5 @@
 -- A decision comes back from its words, and words that are a decision come back from what is read of them.
-use Rattle.std.specs.Prelude.{◌≡◌, refl, ℕ, zero, suc, ◌+◌, ◌-◌, ◌^◌, ◌≤◌, ◌<◌, Bool, true, false, ◌&&◌, List, [], ◌∷◌, length, drop, get_or, T, leb, eqb}
+use Rattle.std.specs.Prelude.{Option, None, Some, ◌≡◌, refl, ℕ, zero, suc, ◌+◌, ◌-◌, ◌^◌, ◌≤◌, ◌<◌, Bool, true, false, ◌&&◌, List, [], ◌∷◌, length, drop, get_or, T, leb, eqb}
 use Rattle.std.proofs.Common.{sym, ◌∙◌, ap, arith, drop_of_length-le, drop-cons, le-leb, eqb-true}
 use Rattle.std.specs.Float.{binary64}
 use Rattle.std.specs.Float.Ieee.{of_bits, to_bits, fits, nan_bits}
@@ -12,8 +12,8 @@ use Rattle.kinds.specs.declared.vector.PressureSource.TheVariants as Source
 use Rattle.kinds.specs.Numbers.{dominant_number, tier_number, kind_number, kind_level, kind_length}
 use Rattle.kinds.specs.declared.tier.SelectionTier.{SelectionTier}
 use Rattle.kinds.specs.declared.tier.SelectionTier.TheVariants as Tier
-use Rattle.kinds.specs.declared.kind.ChosenKind.{ChosenKind}
-use Rattle.kinds.specs.declared.kind.ChosenKind.TheVariants.{None as Nothing, L0, LevelBatch, TrivialMove}
+use Rattle.kinds.specs.declared.kind.CandidateKind.{CandidateKind}
+use Rattle.kinds.specs.declared.kind.CandidateKind.TheVariants.{L0, LevelBatch, TrivialMove}
 use Rattle.decisions.specs.declared.SchedulingDecision.{SchedulingDecision}
 use Rattle.decisions.specs.declared.DecisionRead.TheVariants.{Decision, None as NoDecision}
 use Rattle.decisions.specs.Decision.{decision_width, decision_words, chosen_good, is_decision, source_from, tier_from, kind_from, decision_in, read_of, read_words}
@@ -46,19 +46,19 @@ tier-back Tier.L0 = (refl, refl)
 tier-back Tier.FocusContinued = (refl, refl)
 tier-back Tier.FocusReselected = (refl, refl)
 
-kind-good : (k : ChosenKind) → kind_level k ≤ 2 ^ 32 - 1 → chosen_good (kind_number k) (kind_level k) (kind_length k) ≡ true
+kind-good : (k : Option CandidateKind) → kind_level k ≤ 2 ^ 32 - 1 → chosen_good (kind_number k) (kind_level k) (kind_length k) ≡ true
 unfolding chosen_good
-kind-good Nothing h = refl
-kind-good L0 h = refl
-kind-good (LevelBatch l n) h = le-leb l (2 ^ 32 - 1) h
-kind-good (TrivialMove l) h = simp (le-leb l (2 ^ 32 - 1) h)
+kind-good None h = refl
+kind-good (Some L0) h = refl
+kind-good (Some (LevelBatch l n)) h = le-leb l (2 ^ 32 - 1) h
+kind-good (Some (TrivialMove l)) h = simp (le-leb l (2 ^ 32 - 1) h)
 
-kind-back : (k : ChosenKind) → kind_from (kind_number k) (kind_level k) (kind_length k) ≡ k
+kind-back : (k : Option CandidateKind) → kind_from (kind_number k) (kind_level k) (kind_length k) ≡ k
 unfolding kind_from
-kind-back Nothing = refl
-kind-back L0 = refl
-kind-back (LevelBatch l n) = refl
-kind-back (TrivialMove l) = refl
+kind-back None = refl
+kind-back (Some L0) = refl
+kind-back (Some (LevelBatch l n)) = refl
+kind-back (Some (TrivialMove l)) = refl
 
 pub words-good : (d : SchedulingDecision) → kind_level d.chosen ≤ 2 ^ 32 - 1 → is_decision (decision_words d) ≡ true
 unfolding is_decision decision_words

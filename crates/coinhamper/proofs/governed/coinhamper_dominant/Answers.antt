@@ -4,4 +4,4 @@ use Rattle.kinds.specs.Numbers.{dominant_number}
 use Rattle.coinhamper.proofs.governed.coinhamper_dominant.Goals as goal
 
 pub returns : goal.returns
-returns c = c.number.ensures ∙ ap dominant_number c.dominant.ensures
+returns c = c.from.ensures ∙ ap dominant_number c.dominant.ensures

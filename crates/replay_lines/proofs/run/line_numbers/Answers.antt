@@ -8,7 +8,7 @@ returns c = (
   refl,
   rw (
     row-five,
-    c.number.ensures,
+    c.from.ensures,
     c.idx.ensures,
     c.pacing_delay-delay.ensures,
     c.pressure.ensures,
