@@ -1,12 +1,14 @@
 // Answers questions: reads standard input, and writes one line for each line of it (docs/ROWS.md).
 #![tactic(auto)]
 
-use rows_answers::OUT;
+use rows_answers::Output;
 use rows_state::arithmetic;
 use rows_tables::placed;
+use rows_words::shape::{Fault, Shape};
+use rows_words::words;
 use rows_words::words::{BYTES, SHORT, WORDS, word};
-use rows_words::{shape, words};
-use std::io::{Read, Result};
+use std::io;
+use std::io::Read;
 
 const TEXT: usize = 1048576;
 
@@ -38,7 +40,9 @@ fn short_answer(call: u64, args: &[u64; WORDS], bytes: &[u8; BYTES]) -> [u64; SH
 // A call's answer: one that may be long is written where it is told.
 fn put_answer(call: u64, args: &[u64; WORDS], bytes: &[u8; BYTES], told: &mut [u64; WORDS]) {
     match call {
-        19..=23 => words::put_bytes(told, 0, rows_keys::key_of(call, args, bytes)),
+        19..=23 => {
+            words::put_list(told, 0, rows_keys::key_of(call, args, bytes));
+        }
         26..=28 => placed::put_answer(call, args, bytes, told),
         29 => rows_candidates::put_answer(args, bytes, told),
         46 => rows_merges::put_estimates(args, told),
@@ -53,25 +57,21 @@ fn put_answer(call: u64, args: &[u64; WORDS], bytes: &[u8; BYTES], told: &mut [u
     }
 }
 
-// The answer of a question, as words; its shape, or a fault.
-fn answered(line: &[u8], args: &mut [u64; WORDS], told: &mut [u64; WORDS]) -> u64 {
-    if line.len() == 0 {
-        return shape::EMPTY;
+// The answer of a question goes to words, whose shape is answered.
+fn answered(line: &[u8], args: &mut [u64; WORDS], told: &mut [u64; WORDS]) -> Result<Shape, Fault> {
+    if line.is_empty() {
+        return Err(Fault::Empty);
     }
     if LINE < line.len() {
-        return shape::LONG;
+        return Err(Fault::Long);
     }
-    let end = words::find(line, 0, b' ');
-    let asked = rows_questions::arguments(line, end, args);
-    if shape::FAULTS <= asked {
-        return asked;
-    }
+    let end = line.iter().position(|b| *b == b' ').unwrap_or(line.len());
+    let (name, text) = line.split_at(end);
+    let asked = rows_questions::arguments(text, args)?;
     let mut bytes = [0u8; BYTES];
-    let call = rows_calls::call_of(words::cut(line, 0, end), asked, args, &mut bytes);
-    if call.told < shape::FAULTS {
-        put_answer(call.number, args, &bytes, told);
-    }
-    call.told
+    let call = rows_calls::call_of(name, asked, args, &mut bytes)?;
+    put_answer(call.number, args, &bytes, told);
+    Ok(call.told)
 }
 
 // Answers the whole lines, and tells where the line that has no end yet starts.
@@ -80,47 +80,38 @@ fn answer_lines(
     text: &[u8],
     args: &mut [u64; WORDS],
     told: &mut [u64; WORDS],
-    out: &mut [u8; OUT],
-) -> Result<usize> {
-    let mut start = 0;
-    let mut at = 0;
-    while start < text.len() {
-        let end = words::find(text, start, b'\n');
-        if text.len() <= end {
-            break;
-        }
-        let shape = answered(words::cut(text, start, end), args, told);
-        at = rows_answers::line(rt, out, at, shape, told)?;
-        start = end + 1;
+    out: &mut Output,
+) -> io::Result<usize> {
+    let Some(last) = text.iter().rposition(|b| *b == b'\n') else {
+        return Ok(0);
+    };
+    for line in text[..last].split(|b| *b == b'\n') {
+        out.line(rt, answered(line, args, told), told)?;
     }
-    rows_answers::flush(rt, out, at)?;
-    Ok(start)
+    out.flush(rt)?;
+    Ok(last + 1)
 }
 
 // Moves what stands from a place up to an end to the front, and tells where it then ends. Of a line that is too long only so much is kept that it still is.
 fn shift(text: &mut [u8; TEXT], from: usize, end: usize) -> usize {
-    let last = words::least(end, TEXT);
-    let first = words::least(from, last);
-    let kept = words::least(last - first, LINE + 1);
-    let mut i = 0;
-    while i < kept {
-        text[i] = text[first + i];
-        i += 1;
-    }
+    let last = end.min(TEXT);
+    let first = from.min(last);
+    let kept = (last - first).min(LINE + 1);
+    text.copy_within(first..first + kept, 0);
     kept
 }
 
 // Answers what stands before an end; what is kept of it is then at the front.
-fn answer_text(rt: &impl Print, text: &mut [u8; TEXT], end: usize) -> Result<usize> {
+fn answer_text(rt: &impl Print, text: &mut [u8; TEXT], end: usize) -> io::Result<usize> {
     let mut args = [0u64; WORDS];
     let mut told = [0u64; WORDS];
-    let mut out = [0u8; OUT];
+    let mut out = Output::new();
     let start = answer_lines(rt, words::cut(text, 0, end), &mut args, &mut told, &mut out)?;
     Ok(shift(text, start, end))
 }
 
 // Reads once behind what is kept, and tells where the text then ends.
-fn read_behind(input: &mut impl Read, text: &mut [u8], kept: usize) -> Result<usize> {
+fn read_behind(input: &mut impl Read, text: &mut [u8], kept: usize) -> io::Result<usize> {
     if text.len() < kept {
         return Ok(kept);
     }
@@ -128,12 +119,10 @@ fn read_behind(input: &mut impl Read, text: &mut [u8], kept: usize) -> Result<us
     Ok(kept + got)
 }
 
-fn run(rt: &impl Print, input: &mut impl Read, text: &mut [u8; TEXT]) -> Result<()> {
+fn run(rt: &impl Print, input: &mut impl Read, text: &mut [u8; TEXT]) -> io::Result<()> {
     let mut kept = 0;
     // A proved loop has to end; no run uses the turns up.
-    let mut turns = u64::MAX;
-    while 0 < turns {
-        turns -= 1;
+    for _ in 0..u64::MAX {
         let end = read_behind(input, text, kept)?;
         if end <= kept {
             break;
@@ -141,16 +130,14 @@ fn run(rt: &impl Print, input: &mut impl Read, text: &mut [u8; TEXT]) -> Result<
         kept = answer_text(rt, text, end)?;
     }
     // The last line may lack its end.
-    if 0 < kept {
-        if kept < TEXT {
-            text[kept] = b'\n';
-            answer_text(rt, text, kept + 1)?;
-        }
+    if 0 < kept && kept < TEXT {
+        text[kept] = b'\n';
+        answer_text(rt, text, kept + 1)?;
     }
     Ok(())
 }
 
-fn main(rt: HostRuntime) -> Result<()> {
+fn main(rt: HostRuntime) -> io::Result<()> {
     let mut text = [0u8; TEXT];
     run(&rt, &mut rt.stdin(), &mut text)
 }

@@ -1,6 +1,7 @@
 // What a letter of an argument stands for: a small one for a number, a capital for a list.
+use rows_words::shape::{Kind, Shape};
 use rows_words::words;
-use rows_words::words::{BYTES, NO_ROOM, WORDS};
+use rows_words::words::{BYTES, WORDS};
 
 // A number of a letter: a flag, a mode, a kind, a tier, a byte, 32 bits, a log's words, a run's decisions, the bytes of a text, of a table or of a log's text, or any.
 fn is_number(letter: u8, n: u64) -> bool {
@@ -22,16 +23,10 @@ fn is_number(letter: u8, n: u64) -> bool {
 
 // Each number of the list is as its letter says, from the last letter on as that one.
 fn are_numbers(letters: &[u8], list: &[u64]) -> bool {
-    let last = std::num::wrapping_sub_usize(letters.len(), 1);
-    let mut i = 0;
-    while i < list.len() {
-        let letter = words::byte(letters, words::least(i, last));
-        if !is_number(letter, list[i]) {
-            break;
-        }
-        i += 1;
-    }
-    i == list.len()
+    let last = letters.len().saturating_sub(1);
+    list.iter()
+        .enumerate()
+        .all(|(i, n)| is_number(words::byte(letters, i.min(last)), *n))
 }
 
 // A list of a letter: one to write to, a state, a decision, bytes, or any words.
@@ -45,26 +40,25 @@ fn is_list(letter: u8, list: &[u64]) -> bool {
     }
 }
 
-// The most that a list of bytes from a place on may end at: for the byte lists of a question all together, for a replay's text, and for the room that it is lent, which counts from its own start; 0 for other lists.
-fn limit(letter: u8, at: usize) -> usize {
+// The most that a list of bytes from a place on may end at: for the byte lists of a question all together, for a replay's text, and for the room that it is lent, which counts from its own start. Other lists have none.
+fn limit(letter: u8, at: usize) -> Option<usize> {
     match letter {
-        b'B' => 65536,
-        b'T' => 65537,
-        b'R' => std::num::wrapping_add_usize(at, 65536),
-        _ => 0,
+        b'B' => Some(65536),
+        b'T' => Some(65537),
+        b'R' => Some(at.saturating_add(65536)),
+        _ => None,
     }
 }
 
-// Where the bytes end after a list of a letter; NO_ROOM where it is none.
-fn laid(letter: u8, list: &[u64], bytes: &mut [u8; BYTES], at: usize) -> usize {
+// Where the bytes end after a list of a letter, if it is one.
+fn laid(letter: u8, list: &[u64], bytes: &mut [u8; BYTES], at: usize) -> Option<usize> {
     if !is_list(letter, list) {
-        return NO_ROOM;
+        return None;
     }
-    let end = limit(letter, at);
-    if end == 0 {
-        return at;
+    match limit(letter, at) {
+        Some(end) => words::lay_bytes(bytes, at, list, end),
+        None => Some(at),
     }
-    words::lay_bytes(bytes, at, list, end)
 }
 
 // The same after the argument at a place.
@@ -74,29 +68,40 @@ fn argument(
     place: usize,
     bytes: &mut [u8; BYTES],
     at: usize,
-) -> usize {
-    if letter < b'a' {
-        return laid(letter, words::part(args, place), bytes, at);
+) -> Option<usize> {
+    match kind_of(letter) {
+        Kind::List => laid(letter, words::part(args, place), bytes, at),
+        Kind::Number => is_number(letter, words::word(args, place)).then_some(at),
     }
-    if is_number(letter, words::word(args, place)) {
-        return at;
-    }
-    NO_ROOM
 }
 
 // The arguments, of the right shape, are as the letters say; the lists of bytes then stand one behind the other.
 pub(crate) fn fits(letters: &[u8], args: &[u64; WORDS], bytes: &mut [u8; BYTES]) -> bool {
     let mut place = 0;
     let mut at = 0;
-    let mut i = 0;
-    while i < letters.len() {
-        let letter = letters[i];
-        at = argument(letter, args, place, bytes, at);
-        if NO_ROOM <= at {
-            break;
+    for letter in letters {
+        match argument(*letter, args, place, bytes, at) {
+            Some(end) => at = end,
+            None => return false,
         }
-        place = words::after(args, place, (letter < b'a') as u64);
-        i += 1;
+        place = words::behind(args, place, kind_of(*letter));
     }
-    at < NO_ROOM
+    true
+}
+
+// A capital is a list, a small letter a number.
+fn kind_of(letter: u8) -> Kind {
+    if letter.is_ascii_uppercase() {
+        return Kind::List;
+    }
+    Kind::Number
+}
+
+// The shape that letters stand for.
+pub(crate) fn shape_of(letters: &[u8]) -> Option<Shape> {
+    let mut shape = Shape::new();
+    for letter in letters {
+        shape = shape.with(kind_of(*letter))?;
+    }
+    Some(shape)
 }

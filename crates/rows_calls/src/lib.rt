@@ -4,75 +4,70 @@
 mod letters;
 mod names;
 
-use rows_words::shape;
+use rows_words::shape::{Fault, Shape};
 use rows_words::words::{BYTES, WORDS};
 
-// A call's number, and the shape of its answer or a fault.
+// `echo`, which the table does not list: it answers as `lent`, of any arguments.
+const ECHO: u64 = 60;
+
+// A call, and the shape of its answer.
 #[derive(Clone, Copy)]
 pub struct Call {
+    // The number in the list of calls: of an enum each name would stand a second time beside its line.
     pub number: u64,
-    pub told: u64,
+    pub told: Shape,
 }
 
 fn told_by(
     asks: &[u8],
     tells: &[u8],
-    asked: u64,
+    asked: Option<Shape>,
     args: &[u64; WORDS],
     bytes: &mut [u8; BYTES],
-) -> u64 {
-    if asked != names::shape_of(asks) {
-        return shape::ARGUMENTS;
+) -> Result<Shape, Fault> {
+    if asked == letters::shape_of(asks) && letters::fits(asks, args, bytes) {
+        return letters::shape_of(tells).ok_or(Fault::Arguments);
     }
-    if letters::fits(asks, args, bytes) {
-        return names::shape_of(tells);
-    }
-    shape::ARGUMENTS
+    Err(Fault::Arguments)
 }
 
-// `echo` answers as `lent`, of any arguments.
-fn unlisted(name: &[u8], asked: u64) -> Call {
-    if !check::same(name, b"echo") {
-        return Call {
-            number: 0,
-            told: shape::NAME,
-        };
+fn unlisted(name: &[u8], asked: Option<Shape>) -> Result<Call, Fault> {
+    if name != b"echo".as_slice() {
+        return Err(Fault::Name);
     }
-    Call {
-        number: 60,
-        told: if asked < 2 { shape::ARGUMENTS } else { asked },
+    match asked {
+        Some(told) if 0 < told.parts() => Ok(Call { number: ECHO, told }),
+        _ => Err(Fault::Arguments),
     }
 }
 
 // The call of a name in a table, which has a line to a call: name, arguments, answer, number.
 fn call_in(
-    table: &[u8],
+    table: &str,
     name: &[u8],
-    asked: u64,
+    asked: Option<Shape>,
     args: &[u64; WORDS],
     bytes: &mut [u8; BYTES],
-) -> Call {
-    let at = names::line_of(table, name);
-    if at == table.len() {
+) -> Result<Call, Fault> {
+    let Some(line) = names::line_of(table, name) else {
         return unlisted(name, asked);
-    }
-    let second = names::behind(table, at);
-    let third = names::behind(table, second);
-    Call {
-        number: names::number_at(table, names::behind(table, third)),
-        told: told_by(
-            names::word_at(table, second),
-            names::word_at(table, third),
-            asked,
-            args,
-            bytes,
-        ),
-    }
+    };
+    let asks = names::word_at(line, 1).as_bytes();
+    let tells = names::word_at(line, 2).as_bytes();
+    Ok(Call {
+        number: names::word_at(line, 3).parse().unwrap_or(0),
+        told: told_by(asks, tells, asked, args, bytes)?,
+    })
 }
 
 // The call that a question names, and its byte lists.
-pub fn call_of(name: &[u8], asked: u64, args: &[u64; WORDS], bytes: &mut [u8; BYTES]) -> Call {
-    let table = b"of_bits n n 00
+pub fn call_of(
+    name: &[u8],
+    asked: Option<Shape>,
+    args: &[u64; WORDS],
+    bytes: &mut [u8; BYTES],
+) -> Result<Call, Fault> {
+    let table = "of_bits n n 00
 absolute n n 01
 clamp n n 02
 of_u64 n n 03

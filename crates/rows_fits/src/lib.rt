@@ -56,7 +56,7 @@ fn laid(seed: u64, at: u64, list: &[u64]) -> [u64; SEEDED] {
 
 fn put_table(r: Written, out: &[u8], asked: [u64; 4], told: &mut [u64; WORDS]) {
     words::put_all(told, 0, &[r.refusal, r.length as u64, digest(out)]);
-    words::put_bytes(
+    words::put_list(
         told,
         3,
         words::cut(out, asked[2] as usize, asked[3] as usize),
@@ -101,7 +101,7 @@ fn put_log(text: &[u8], length: u64, seed: u64, told: &mut [u64; WORDS]) {
 
 fn put_report(r: Written, shown: &[u8], told: &mut [u64; WORDS]) {
     words::put_all(told, 0, &[r.refusal, r.length as u64]);
-    words::put_bytes(told, 2, shown);
+    words::put_list(told, 2, shown);
 }
 
 // The report goes to what a list holds.
@@ -139,7 +139,7 @@ fn put_last(text: &[u8], told: &mut [u64; WORDS]) {
     let report = log_text::refused_lines(text, &mut room);
     words::put(told, 4, report.length as u64);
     let shown = words::cut(&room, 0, report.length);
-    words::put_bytes(told, 5, texts::last_line(shown));
+    words::put_list(told, 5, texts::last_line(shown));
 }
 
 fn put_filled(text: &[u8], told: &mut [u64; WORDS]) {

@@ -1,159 +1,118 @@
-// A question's text: its name, and its arguments as words, a list as its count and then its elements.
+// A question's text: its arguments as words, a list as its count and then its elements.
 #![tactic(auto)]
 
+ghost use Rattle.std.specs.Prelude.{◌≤◌, length, IfOk};
+
+use rows_words::shape::{Fault, Kind, Shape};
+use rows_words::words;
 use rows_words::words::WORDS;
-use rows_words::{shape, words};
 
-// A fault stands where a place would, too.
-const NUMBER: usize = shape::NUMBER as usize;
-
-const LONG: usize = shape::LONG as usize;
-
-// A byte as a digit; 10 where it is none.
-fn digit(b: u8) -> u64 {
-    if b < b'0' {
-        return 10;
-    }
-    if b'9' < b {
-        return 10;
-    }
-    b as u64 - 48
-}
-
-// A number, and the place behind it, or a fault.
+// A number, and the text behind it.
 #[derive(Clone, Copy)]
-struct Numeral {
+struct Numeral<'a> {
     value: u64,
-    next: usize,
+    rest: &'a [u8],
 }
 
-// The end of a number's digits: there is at least one, none behind a first 0, and no further one behind the end.
-fn ended(line: &[u8], from: usize, end: usize) -> usize {
-    if end <= from {
-        return NUMBER;
+// The number that has so many digits, if it is below 2^64.
+fn value_of(digits: &[u8]) -> Option<u64> {
+    let mut value: u64 = 0;
+    for digit in digits {
+        value = value
+            .checked_mul(10)?
+            .checked_add(u64::from(digit.wrapping_sub(b'0')))?;
     }
-    if digit(words::byte(line, end)) < 10 {
-        return NUMBER;
-    }
-    if words::byte(line, from) == b'0' {
-        if from + 1 < end {
-            return NUMBER;
-        }
-    }
-    end
+    Some(value)
 }
 
-// The number from a place on, as far as the digits that have room.
-fn number(line: &[u8], from: usize) -> Numeral {
-    let mut value = 0;
-    let mut i = from;
-    while i < line.len() {
-        let d = digit(line[i]);
-        if 9 < d {
-            break;
-        }
-        if (0xffff_ffff_ffff_ffff - d) / 10 < value {
-            break;
-        }
-        value = value * 10 + d;
-        i += 1;
-    }
-    Numeral {
-        value,
-        next: ended(line, from, i),
+// The number that a text begins with: at least one digit, and none behind a first 0.
+fn number(text: &[u8]) -> Result<Numeral<'_>, Fault>
+    ensures { IfOk result (λ n. length n.rest.now ≤ length text.now) }
+{
+    let count = text
+        .iter()
+        .position(|b| !b.is_ascii_digit())
+        .unwrap_or(text.len());
+    let (digits, rest) = text.split_at(count);
+    match digits {
+        [] | [b'0', _, ..] => Err(Fault::Number),
+        _ => match value_of(digits) {
+            Some(value) => Ok(Numeral { value, rest }),
+            None => Err(Fault::Number),
+        },
     }
 }
 
-// What the text of a list that is not empty answers: the place behind its bracket, or a fault.
-fn closed(mark: u8, next: usize, last: usize) -> usize {
-    if WORDS <= last {
-        return LONG;
-    }
-    if mark == b']' {
-        return next;
-    }
-    NUMBER
-}
-
-// A list's numbers, from its first on, up to its bracket.
-fn elements(line: &[u8], from: usize, args: &mut [u64; WORDS], at: usize) -> usize {
-    let mut mark = b' ';
-    let mut i = from;
-    let mut to = std::num::wrapping_add_usize(at, 1);
-    while to < WORDS {
-        let n = number(line, i);
+// A list's numbers, from its first on, up to its bracket, go to the words; the text behind is answered.
+fn elements<'a>(text: &'a [u8], args: &mut [u64; WORDS], at: usize) -> Result<&'a [u8], Fault>
+    ensures { IfOk result (λ rest. length rest.now ≤ length text.now) }
+{
+    let mut left = text;
+    for to in at.saturating_add(1)..WORDS {
+        let n = number(left)?;
         words::put(args, to, n.value);
-        let next = n.next;
-        mark = words::byte(line, next);
-        i = std::num::wrapping_add_usize(next, 1);
-        if mark != b' ' {
-            break;
+        match n.rest.split_first() {
+            Some((b' ', rest)) => left = rest,
+            Some((b']', rest)) => {
+                words::put(args, at, (to - at) as u64);
+                return Ok(rest);
+            }
+            _ => return Err(Fault::Number),
         }
-        to += 1;
     }
-    words::put(args, at, std::num::wrapping_sub_usize(to, at) as u64);
-    closed(mark, i, to)
+    Err(Fault::Long)
 }
 
-// The list from behind its bracket on goes to a place of the words.
-fn list(line: &[u8], from: usize, args: &mut [u64; WORDS], at: usize) -> usize {
+// The list whose text stands behind its bracket goes to a place of the words.
+fn list<'a>(text: &'a [u8], args: &mut [u64; WORDS], at: usize) -> Result<&'a [u8], Fault>
+    ensures { IfOk result (λ rest. length rest.now ≤ length text.now) }
+{
     if WORDS <= at {
-        return LONG;
+        return Err(Fault::Long);
     }
-    if line.len() <= from {
-        return NUMBER;
-    }
-    if line[from] == b']' {
-        words::put(args, at, 0);
-        return from + 1;
-    }
-    elements(line, from, args, at)
-}
-
-// A number's end, where the words have room for it.
-fn in_room(next: usize, at: usize) -> usize {
-    if at < WORDS {
-        return next;
-    }
-    if next == NUMBER {
-        return NUMBER;
-    }
-    LONG
-}
-
-// The number (kind 0) or the list (kind 1) behind the space at a place.
-fn argument(line: &[u8], space: usize, kind: u64, args: &mut [u64; WORDS], at: usize) -> usize {
-    if words::byte(line, space) != b' ' {
-        return NUMBER;
-    }
-    let from = std::num::wrapping_add_usize(space, 1);
-    if kind == 1 {
-        return list(line, std::num::wrapping_add_usize(from, 1), args, at);
-    }
-    let n = number(line, from);
-    words::put(args, at, n.value);
-    in_room(n.next, at)
-}
-
-// The arguments behind the name, each behind one space, go to the words; their shape is answered, or a fault.
-pub fn arguments(line: &[u8], name_end: usize, args: &mut [u64; WORDS]) -> u64 {
-    let mut shape = 1;
-    let mut count = 0;
-    let mut at = name_end;
-    while at < line.len() {
-        let kind = (words::byte(line, at + 1) == b'[') as u64;
-        let next = argument(line, at, kind, args, count);
-        // It never is; the test spares a proof that the loop ends.
-        if next <= at {
-            return shape::NUMBER;
+    match text.split_first() {
+        None => Err(Fault::Number),
+        Some((b']', rest)) => {
+            args[at] = 0;
+            Ok(rest)
         }
-        shape = shape::shape_with(shape, kind);
-        count = words::after(args, count, kind);
-        at = next;
+        Some(_) => elements(text, args, at),
     }
-    // A fault lies behind the line, and so ends the loop.
-    if line.len() < at {
-        return at as u64;
+}
+
+// The number goes to a place of the words.
+fn single<'a>(text: &'a [u8], args: &mut [u64; WORDS], at: usize) -> Result<&'a [u8], Fault>
+    ensures { IfOk result (λ rest. length rest.now ≤ length text.now) }
+{
+    let n = number(text)?;
+    if WORDS <= at {
+        return Err(Fault::Long);
     }
-    shape
+    args[at] = n.value;
+    Ok(n.rest)
+}
+
+// The arguments, each behind one space, go to the words; their shape is answered, none where they are too many for one.
+pub fn arguments(text: &[u8], args: &mut [u64; WORDS]) -> Result<Option<Shape>, Fault> {
+    let mut shape = Some(Shape::new());
+    let mut at = 0;
+    let mut left = text;
+    while let Some((space, argument)) = left.split_first() {
+        if *space != b' ' {
+            return Err(Fault::Number);
+        }
+        let kind = match argument.split_first() {
+            Some((b'[', elements)) => {
+                left = list(elements, args, at)?;
+                Kind::List
+            }
+            _ => {
+                left = single(argument, args, at)?;
+                Kind::Number
+            }
+        };
+        shape = shape.and_then(|s| s.with(kind));
+        at = words::behind(args, at, kind);
+    }
+    Ok(shape)
 }

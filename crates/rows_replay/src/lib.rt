@@ -27,7 +27,7 @@ pub fn answer(call: u64, args: &[u64; WORDS], bytes: &[u8]) -> [u64; SHORT] {
 
 fn put_run(out: &mut [u64; WORDS], r: Replayed, shown: &[u8]) {
     words::put_all(out, 0, &[r.refusal, r.length as u64]);
-    words::put_bytes(out, 2, shown);
+    words::put_list(out, 2, shown);
 }
 
 // The output goes to what a list holds.

@@ -4,8 +4,7 @@
 ghost use Rattle.std.specs.Prelude.{◌≤◌};
 
 use decision_log::DecisionLog;
-use rows_words::words;
-use rows_words::words::{SHORT, WORDS, word};
+use rows_words::words::{Element, SHORT, WORDS, word};
 
 // The most words of a log or of what is read of it, one more than there are.
 pub const SEEDED: usize = 57345;
@@ -23,35 +22,28 @@ pub fn log_at(args: &[u64; WORDS]) -> DecisionLog {
 pub fn length_at(args: &[u64; WORDS], at: usize) -> usize
     ensures { result ≤ 57345 }
 {
-    words::least(word(args, at) as usize, SEEDED)
-}
-
-fn odd_after(word: u64, seed: u64) -> u64 {
-    std::num::wrapping_add_u64(word, std::num::wrapping_add_u64(seed, seed))
+    (word(args, at) as usize).min(SEEDED)
 }
 
 // The i-th word is seed * (2 i + 1).
+fn seeded_word(seed: u64, i: usize) -> u64 {
+    seed.wrapping_mul((i as u64).wrapping_mul(2).wrapping_add(1))
+}
+
 pub fn seeded(seed: u64) -> [u64; SEEDED] {
     let mut words = [0u64; SEEDED];
-    let mut word = seed;
-    let mut i = 0;
-    while i < SEEDED {
-        words[i] = word;
-        word = odd_after(word, seed);
-        i += 1;
+    for (i, word) in words.iter_mut().enumerate() {
+        *word = seeded_word(seed, i);
     }
     words
 }
 
-// The sum of each word times its place from 1 on, by the sums from each place to the end.
-pub fn digest(words: &[u64]) -> u64 {
-    let mut sum = 0;
-    let mut total = 0;
-    let mut i = words.len();
-    while 0 < i {
-        i -= 1;
-        sum = std::num::wrapping_add_u64(sum, words[i]);
-        total = std::num::wrapping_add_u64(total, sum);
+// The sum of each word or byte times its place from 1 on.
+pub fn digest<T: Element>(list: &[T]) -> u64 {
+    let mut total: u64 = 0;
+    for (i, n) in list.iter().enumerate() {
+        let place = (i as u64).wrapping_add(1);
+        total = total.wrapping_add(n.as_word().wrapping_mul(place));
     }
     total
 }
@@ -65,19 +57,14 @@ fn put_pair(told: &mut [u64; SHORT], at: usize, n: u64, m: u64) {
 
 // An answer with, from 4 on, the list of the places and words that differ from the seed's, and the digest.
 pub fn changes(mut told: [u64; SHORT], words: &[u64], seed: u64) -> [u64; SHORT] {
-    let mut to = 5;
-    let mut word = seed;
-    let mut i = 0;
-    while i < words.len() {
-        let found = words[i];
-        if found != word {
-            put_pair(&mut told, to, i as u64, found);
-            to = std::num::wrapping_add_usize(to, 2);
+    let mut to: usize = 5;
+    for (i, word) in words.iter().enumerate() {
+        if *word != seeded_word(seed, i) {
+            put_pair(&mut told, to, i as u64, *word);
+            to = to.wrapping_add(2);
         }
-        word = odd_after(word, seed);
-        i += 1;
     }
-    told[4] = std::num::wrapping_sub_u64(to as u64, 5);
+    told[4] = (to as u64).wrapping_sub(5);
     put_pair(&mut told, to, digest(words), 0);
     told
 }

@@ -22,7 +22,7 @@ pub fn count_of(call: u64, list: &[u64]) -> u64 {
 // The words of the record at a place.
 pub fn record(call: u64, args: &[u64; WORDS]) -> [u64; SHORT] {
     let list = words::part(args, 0);
-    let place = words::word(args, words::after(args, 0, 1)) as usize;
+    let place = words::word(args, words::after_list(args, 0)) as usize;
     if call == 25 {
         let e = tables::entry_at(list, place);
         return words::told(&[e.level, e.budget], &[]);

@@ -7,31 +7,17 @@ const LENT: usize = 65536;
 
 fn places_of(list: &[u64]) -> [usize; LENT] {
     let mut places = [0usize; LENT];
-    let end = words::least(list.len(), LENT);
-    let mut i = 0;
-    while i < end {
-        places[i] = list[i] as usize;
-        i += 1;
+    for (place, n) in places.iter_mut().zip(list) {
+        *place = *n as usize;
     }
     places
 }
 
-fn put_list(out: &mut [u64; WORDS], at: usize, places: &[usize]) {
-    words::put(out, at, places.len() as u64);
-    let mut to = at;
-    let mut i = 0;
-    while i < places.len() {
-        to = std::num::wrapping_add_usize(to, 1);
-        words::put(out, to, places[i] as u64);
-        i += 1;
-    }
-}
-
 // Where the call's first number stands.
 fn number_place(call: u64, args: &[u64; WORDS]) -> usize {
-    let second = words::after(args, 0, 1);
+    let second = words::after_list(args, 0);
     if call == 27 {
-        return words::after(args, second, 1);
+        return words::after_list(args, second);
     }
     second
 }
@@ -41,7 +27,7 @@ fn list_of(call: u64, args: &[u64; WORDS], at: usize) -> &[u64] {
     if call == 28 {
         return words::part(args, 0);
     }
-    words::part(args, std::num::wrapping_add_usize(at, 1))
+    words::part(args, at.wrapping_add(1))
 }
 
 // The call, whose first number stands at a place, on the places; what it tells.
@@ -52,11 +38,11 @@ fn ordered(call: u64, args: &[u64; WORDS], bytes: &[u8], at: usize, places: &mut
         return levels::level_places(tables, n, places);
     }
     if call == 27 {
-        let end = rows_keys::end_of(args, words::after(args, 0, 1), 0);
+        let end = rows_keys::end_of(args, words::after_list(args, 0), 0);
         return levels::sort_level(tables, words::cut(bytes, 0, end), n, places);
     }
-    let place = words::word(args, std::num::wrapping_add_usize(at, 1)) as usize;
-    let value = words::word(args, std::num::wrapping_add_usize(at, 2)) as usize;
+    let place = words::word(args, at.wrapping_add(1)) as usize;
+    let value = words::word(args, at.wrapping_add(2)) as usize;
     places::insert_at(places, n as usize, place, value);
     0
 }
@@ -66,8 +52,8 @@ pub fn put_answer(call: u64, args: &[u64; WORDS], bytes: &[u8], out: &mut [u64; 
     let at = number_place(call, args);
     let list = list_of(call, args, at);
     let mut room = places_of(list);
-    let n = words::least(list.len(), LENT);
+    let n = list.len().min(LENT);
     let places = &mut room[0..n];
     out[0] = ordered(call, args, bytes, at, places) as u64;
-    put_list(out, (call < 28) as usize, places);
+    words::put_list(out, (call < 28) as usize, places);
 }

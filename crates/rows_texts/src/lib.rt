@@ -15,28 +15,19 @@ pub fn bytes_of(list: &[u64]) -> [u8; BYTES] {
     bytes
 }
 
-// The text again and again, as far as a buffer goes.
+// The text again and again, as far as a buffer goes; zeros where it is empty.
 pub fn repeat(text: &[u8], out: &mut [u8]) {
-    let mut i = 0;
-    let mut from = 0;
-    while i < out.len() {
-        if text.len() <= from {
-            from = 0;
-        }
-        out[i] = words::byte(text, from);
-        from = std::num::wrapping_add_usize(from, 1);
-        i += 1;
+    out.fill(0);
+    for (to, b) in out.iter_mut().zip(text.iter().cycle()) {
+        *to = *b;
     }
 }
 
 // The last line, from behind the line end before it.
 pub fn last_line(output: &[u8]) -> &[u8] {
-    let mut start = output.len();
-    while 1 < start {
-        start -= 1;
-        if words::byte(output, start - 1) == b'\n' {
-            return words::cut(output, start, output.len());
-        }
+    let before = words::cut(output, 0, output.len().saturating_sub(1));
+    match before.iter().rposition(|b| *b == b'\n') {
+        Some(place) => words::cut(output, place + 1, output.len()),
+        None => output,
     }
-    output
 }

@@ -1,4 +1,4 @@
-// What every call of the test program is asked and tells (docs/ROWS.md): words and bytes by their place, and shapes.
+// What every call of the test program is asked and tells (docs/ROWS.md): words and bytes by their place, shapes, and faults.
 #![tactic(auto)]
 
 pub mod shape;

@@ -1,9 +1,0 @@
--- `rows_words::words::put_all` is safe and ends: each turn copies one number. Assumes nothing.
-use Rattle.std.proofs.Common.{◌-◌, ◌≤◌}
-use Rattle.rows_words.proofs.words.put_all.Given as goal
-
-abbrev pub invariant-loop-to : goal.invariant-loop-to
-invariant-loop-to l = l.at ≤ l.to
-
-abbrev pub decreases-loop-to : goal.decreases-loop-to
-decreases-loop-to l = l.end - l.to
