@@ -1,30 +1,22 @@
-// Words put into a lent buffer from a place on. Nothing is refused: a word that would stand past the buffer's end is lost.
+// Words of any one kind put into a lent buffer from a place on. Nothing is refused: a word that would stand past the buffer's end is lost.
 #![tactic(auto)]
 
 ghost use Rattle.std.specs.Prelude.{◌≡◌, set};
 ghost use Rattle.std.proofs.lemmas.List.Edits.{sets};
 
-pub fn put(out: &mut [u64], at: usize, word: u64)
+pub fn put<T: Copy>(out: &mut [T], at: usize, word: T)
     ensures { out.new ≡ set out.old at word }
 {
+    // An index: of a slice behind `get_mut` the library does not say how it ends.
     if at < out.len() {
         out[at] = word;
     }
 }
 
-pub fn put_words(out: &mut [u64], at: usize, words: &[u64])
+pub fn put_words<T: Copy>(out: &mut [T], at: usize, words: &[T])
     ensures { out.new ≡ sets out.old at words.now }
 {
-    if out.len() <= at {
-        return;
-    }
-    let room = out.len() - at;
-    let mut i: usize = 0;
-    while i < words.len() {
-        if room <= i {
-            return;
-        }
-        out[at + i] = words[i];
-        i += 1;
-    }
+    let from = at.min(out.len());
+    let count = words.len().min(out.len() - from);
+    out[from..from + count].copy_from_slice(&words[..count]);
 }
