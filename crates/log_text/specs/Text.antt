@@ -11,8 +11,7 @@ use Rattle.decision_log.specs.declared.DecisionLog.{DecisionLog}
 use Rattle.decision_log.specs.Log.{empty_log, max_kept, log_bad}
 use Rattle.replay_text.specs.Lines.{LF, comma, lines_of, fields_of}
 use Rattle.text_writers.specs.Rows.{row_of}
-use Rattle.log_fields.specs.declared.DecisionLine.{DecisionLine}
-use Rattle.log_fields.specs.Line.{line_of}
+use Rattle.log_fields.specs.Line.{DecisionLine, line_of}
 use Rattle.log_text.specs.declared.TextRead.{TextRead}
 use Rattle.refusals.specs.declared.Written.{Written}
 use Rattle.refusals.specs.Written.{written_of, written_out}

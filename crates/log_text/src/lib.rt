@@ -13,7 +13,7 @@ use decision_log::{DecisionLog, LOG_WORDS, MAX_DECISIONS_KEPT, log_bad};
 use decisions::DECISION_WIDTH;
 use log_fields::line_of;
 use refusals::Written;
-use replay_text::reader::{COMMA, LF, LineAt, next_line};
+use replay_text::reader::{COMMA, LF, Lines};
 use text_writers::put_row;
 
 // The most bytes that 4,096 good lines have.
@@ -46,18 +46,13 @@ fn put_lines(text: &[u8], words: &mut [u64]) -> u64
     ensures { (result ≡ length (lines_of text.now)) × Filled words.old 0 (words_of (lines_of text.now)) words.new (14 * result) }
 {
     let mut n: u64 = 0;
-    let mut place: usize = 0;
-    loop {
-        let found = next_line(text, place);
-        let LineAt::Part { start, end, next } = found else {
-            return n;
-        };
-        let line = line_of(&text[start..end]);
-        let at = DECISION_WIDTH * n as usize;
-        put_words(words, at, &line.words);
+    for line in Lines::of(text) {
+        // A line that is none takes its place too, as zeros.
+        let decision = line_of(line).unwrap_or([0; DECISION_WIDTH]);
+        put_words(words, DECISION_WIDTH * n as usize, &decision);
         n += 1;
-        place = next;
     }
+    n
 }
 
 // A refused line's row, and nothing for a good one.
@@ -77,17 +72,11 @@ fn put_bad(text: &[u8], out: &mut [u8]) -> usize
 {
     let mut number: u64 = 1;
     let mut at: usize = 0;
-    let mut place: usize = 0;
-    loop {
-        let found = next_line(text, place);
-        let LineAt::Part { start, end, next } = found else {
-            return at;
-        };
-        let line = line_of(&text[start..end]);
-        at += put_refused(out, at, number, line.good);
+    for line in Lines::of(text) {
+        at += put_refused(out, at, number, line_of(line).is_some());
         number += 1;
-        place = next;
     }
+    at
 }
 
 fn too_long(text: &[u8]) -> bool

@@ -3,22 +3,20 @@ pub mod Accepted
 pub mod Digits
 pub mod Reading
 pub mod Short
-use Rattle.std.specs.Prelude.{ℕ, zero, suc, ◌+◌, ◌-◌, ◌*◌, ◌/◌, ◌%◌, ◌^◌, Bool, true, false, cond, not, ◌&&◌, ◌||◌, List, [], ◌∷◌, ◌++◌, length, leb, ltb, eqb}
-use Rattle.numerals.specs.declared.Number.{Number}
-use Rattle.numerals.specs.declared.Number.TheVariants.{Value, None as NoNumber}
+use Rattle.std.specs.Prelude.{Option, Some, None, ℕ, zero, suc, ◌+◌, ◌-◌, ◌*◌, ◌/◌, ◌%◌, ◌^◌, Bool, true, false, cond, not, ◌&&◌, ◌||◌, List, [], ◌∷◌, ◌++◌, length, leb, ltb, eqb}
 
 -- what was read: 1 and the number, or 0 and 0
-abbrev pub read_numbers : Number → List ℕ
-read_numbers NoNumber = 0 ∷ 0 ∷ []
-read_numbers (Value n) = 1 ∷ n ∷ []
+abbrev pub read_numbers : Option ℕ → List ℕ
+read_numbers None = 0 ∷ 0 ∷ []
+read_numbers (Some n) = 1 ∷ n ∷ []
 
-abbrev pub is_value : Number → Bool
-is_value (Value n) = true
-is_value NoNumber = false
+abbrev pub is_value : Option ℕ → Bool
+is_value (Some n) = true
+is_value None = false
 
-abbrev pub value_of : Number → ℕ
-value_of (Value n) = n
-value_of NoNumber = 0
+abbrev pub value_of : Option ℕ → ℕ
+value_of (Some n) = n
+value_of None = 0
 
 abbrev pub is_digit : ℕ → Bool
 is_digit b = leb 48 b && leb b 57
@@ -42,9 +40,9 @@ well_begun (b ∷ []) = true
 well_begun (b ∷ c ∷ bs) = not (eqb b 48)
 
 -- decimal digits, no leading zero but in 0 itself, below 2^64
-unfoldable pub decimal_of : List ℕ → Number
+unfoldable pub decimal_of : List ℕ → Option ℕ
 decimal_of bs =
-    cond (all_of is_digit bs && (well_begun bs && ltb (value_from digit_of 10 0 bs) (2 ^ 64))) (Value (value_from digit_of 10 0 bs)) NoNumber
+    cond (all_of is_digit bs && (well_begun bs && ltb (value_from digit_of 10 0 bs) (2 ^ 64))) (Some (value_from digit_of 10 0 bs)) None
 
 -- a hex digit of either case
 abbrev pub is_hex : ℕ → Bool
@@ -54,8 +52,8 @@ abbrev pub hex_digit_of : ℕ → ℕ
 hex_digit_of b = cond (leb b 57) (b - 48) (cond (leb b 70) (b - 55) (b - 87))
 
 -- exactly 16 of them
-unfoldable pub bits_of : List ℕ → Number
-bits_of bs = cond (eqb (length bs) 16 && all_of is_hex bs) (Value (value_from hex_digit_of 16 0 bs)) NoNumber
+unfoldable pub bits_of : List ℕ → Option ℕ
+bits_of bs = cond (eqb (length bs) 16 && all_of is_hex bs) (Some (value_from hex_digit_of 16 0 bs)) None
 
 -- a number's decimal digits, the fewest that hold it: at most k + 1 of them
 unfoldable pub digits_up_to : ℕ → ℕ → List ℕ
@@ -88,6 +86,6 @@ unfoldable pub digit_value : ℕ → ℕ
 digit_value b = cond (is_digit b) (b - 48) (cond (is_upper b) (b - 55) (cond (is_lower b) (b - 87) 16))
 
 -- digits to a base, after a number n of them, below 2^64
-unfoldable pub number_from : ℕ → ℕ → List ℕ → Number
+unfoldable pub number_from : ℕ → ℕ → List ℕ → Option ℕ
 number_from base n bs =
-    cond (all_of (λ (b : ℕ). ltb (digit_value b) base) bs && ltb (value_from digit_value base n bs) (2 ^ 64)) (Value (value_from digit_value base n bs)) NoNumber
+    cond (all_of (λ (b : ℕ). ltb (digit_value b) base) bs && ltb (value_from digit_value base n bs) (2 ^ 64)) (Some (value_from digit_value base n bs)) None

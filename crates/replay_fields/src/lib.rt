@@ -1,122 +1,68 @@
 // One line: its six fields, as an observation or none. Nothing is refused.
 #![tactic(auto)]
 
-ghost use Rattle.std.specs.Prelude.{◌≡◌, ◌-◌, ◌≤◌, length, take, drop};
+ghost use Rattle.std.specs.Prelude.{◌≡◌};
 ghost use Rattle.replay_text.specs.Lines.{fields_of};
-ghost use Rattle.replay_text.specs.Lines.Fields.{Commas};
-ghost use Rattle.numerals.specs.Numbers.{decimal_of, bits_of};
+ghost use Rattle.replay_text.specs.Lines.Left.{fields_left};
 ghost use Rattle.replay_fields.specs.Fields.{observation, line_of};
+ghost use Rattle.replay_fields.specs.Fields.Reading.{SixRead};
 
-use numerals::{Number, bits, decimal};
+use numerals::{bits, decimal};
 use pressure::PressureSample;
-use replay_text::reader::{COMMA, find};
+use replay_text::fields::Fields;
 
+// What a line says: the clock, and what is observed at it.
 #[derive(Clone, Copy)]
-pub enum Line {
-    Observation(u64, PressureSample),
-    None,
+pub struct Observation {
+    pub now: u64,
+    pub sample: PressureSample,
 }
 
 // An observation, if every field is a number of its kind.
+#[tactic(auto, unfolding(crate::specs::Fields::observation))]
 fn observed(
-    clock: Number,
-    l0: Number,
-    trigger: Number,
-    ratio: Number,
-    probes: Number,
-    backlog: Number,
-) -> Line
+    clock: Option<u64>,
+    l0: Option<u64>,
+    trigger: Option<u64>,
+    ratio: Option<u64>,
+    probes: Option<u64>,
+    backlog: Option<u64>,
+) -> Option<Observation>
     ensures { result ≡ observation clock l0 trigger ratio probes backlog }
 {
-    let Number::Value(now) = clock else {
-        return Line::None;
-    };
-    let Number::Value(l0_count) = l0 else {
-        return Line::None;
-    };
-    let Number::Value(l0_write_stall_trigger) = trigger else {
-        return Line::None;
-    };
-    let Number::Value(ratio_bits) = ratio else {
-        return Line::None;
-    };
-    let Number::Value(probe_bits) = probes else {
-        return Line::None;
-    };
-    let Number::Value(backlog_levels) = backlog else {
-        return Line::None;
-    };
-    Line::Observation(
-        now,
-        PressureSample {
-            l0_count,
-            l0_write_stall_trigger,
-            max_level_debt_ratio: arith::floats::of_bits(ratio_bits),
-            tables_probed_per_get: arith::floats::of_bits(probe_bits),
-            backlog_levels,
+    Some(Observation {
+        now: clock?,
+        sample: PressureSample {
+            l0_count: l0?,
+            l0_write_stall_trigger: trigger?,
+            max_level_debt_ratio: arith::floats::of_bits(ratio?),
+            tables_probed_per_get: arith::floats::of_bits(probes?),
+            backlog_levels: backlog?,
         },
-    )
+    })
 }
 
-// Where the first five fields end: at a comma, or past the last one at the line's end or further on.
-#[derive(Clone, Copy)]
-struct Ends {
-    clock: usize,
-    l0: usize,
-    trigger: usize,
-    ratio: usize,
-    probes: usize,
-}
-
-fn ends_of(line: &[u8]) -> Ends
-    ensures { Commas line.now result.clock result.l0 result.trigger result.ratio result.probes }
+// The next six fields.
+fn six_of(fields: &mut Fields) -> Option<Observation>
+    ensures { SixRead (fields_left fields.old) (fields_left fields.new) result }
 {
-    let clock = find(line, COMMA, 0);
-    let l0 = find(line, COMMA, clock + 1);
-    let trigger = find(line, COMMA, l0 + 1);
-    let ratio = find(line, COMMA, trigger + 1);
-    let probes = find(line, COMMA, ratio + 1);
-    Ends {
-        clock,
-        l0,
-        trigger,
-        ratio,
-        probes,
-    }
-}
-
-fn decimal_in(line: &[u8], start: usize, end: usize) -> Number
-    requires { (start ≤ end) × (end ≤ length line.now) }
-    ensures { result ≡ decimal_of (take (end - start) (drop start line.now)) }
-{
-    decimal(&line[start..end])
-}
-
-fn bits_in(line: &[u8], start: usize, end: usize) -> Number
-    requires { (start ≤ end) × (end ≤ length line.now) }
-    ensures { result ≡ bits_of (take (end - start) (drop start line.now)) }
-{
-    bits(&line[start..end])
+    let clock = fields.next().and_then(decimal);
+    let l0 = fields.next().and_then(decimal);
+    let trigger = fields.next().and_then(decimal);
+    let ratio = fields.next().and_then(bits);
+    let probes = fields.next().and_then(bits);
+    let backlog = fields.next().and_then(decimal);
+    observed(clock, l0, trigger, ratio, probes, backlog)
 }
 
 // Exactly six fields, parted by commas.
-pub fn line_of(line: &[u8]) -> Line
+pub fn line_of(line: &[u8]) -> Option<Observation>
     ensures { result ≡ line_of (fields_of line.now) }
 {
-    let end = ends_of(line);
-    if line.len() <= end.probes {
-        return Line::None;
+    let mut fields = Fields::of(line);
+    let observation = six_of(&mut fields);
+    if fields.next().is_some() {
+        return None;
     }
-    let backlog = end.probes + 1;
-    if find(line, COMMA, backlog) < line.len() {
-        return Line::None;
-    }
-    observed(
-        decimal_in(line, 0, end.clock),
-        decimal_in(line, end.clock + 1, end.l0),
-        decimal_in(line, end.l0 + 1, end.trigger),
-        bits_in(line, end.trigger + 1, end.ratio),
-        bits_in(line, end.ratio + 1, end.probes),
-        decimal_in(line, backlog, line.len()),
-    )
+    observation
 }

@@ -1,7 +1,7 @@
 -- The whole of `replay`, from bytes to bytes. Definitions only.
 pub mod Room
 pub mod Steps
-use Rattle.std.specs.Prelude.{ℕ, suc, ◌≤◌, ◌≡◌, cond, List, [], ◌∷◌, ◌++◌, length, take, drop, ltb, eqb}
+use Rattle.std.specs.Prelude.{Option, Some, None, ℕ, suc, ◌≤◌, ◌≡◌, cond, List, [], ◌∷◌, ◌++◌, length, take, drop, ltb, eqb}
 use Rattle.refusals.specs.Refusals.{◌gives◌, first_fault, none, bad_record, no_room}
 use Rattle.state.specs.declared.GovernorState.{GovernorState}
 use Rattle.state.specs.declared.Observed.{Observed}
@@ -11,17 +11,16 @@ use Rattle.state.specs.State.{fresh_of}
 use Rattle.governor.specs.Observe.{observed_of}
 use Rattle.pressure.specs.Pacing.{pacing_of}
 use Rattle.kinds.specs.Vector.{dominant_of}
-use Rattle.replay_fields.specs.declared.Line.{Line}
-use Rattle.replay_fields.specs.declared.Line.TheVariants.{Observation, None as NoLine}
+use Rattle.replay_fields.specs.declared.Observation.{Observation}
 use Rattle.replay_lines.specs.declared.run.Replayed.{Replayed}
 use Rattle.replay_text.specs.Lines.{LF, comma, lines_of, fields_of}
 use Rattle.numerals.specs.Numbers.{spelt}
 use Rattle.replay_fields.specs.Fields.{line_of}
 
 -- any other line counts as refusal 5, and leaves the state as it was
-abbrev pub observe_line : GovernorState → Line → Observed
-observe_line s (Observation clock p) = observed_of source s clock p
-observe_line s NoLine = record { refusal = bad_record; state = s }
+abbrev pub observe_line : GovernorState → Option Observation → Observed
+observe_line s (Some l) = observed_of source s l.now l.sample
+observe_line s None = record { refusal = bad_record; state = s }
 
 -- five numbers, parted by commas and ended by LF
 abbrev pub five : ℕ → ℕ → ℕ → ℕ → ℕ → List ℕ

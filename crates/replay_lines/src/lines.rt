@@ -1,15 +1,14 @@
 // What a line does to the governor.
 ghost use Rattle.std.specs.Prelude.{◌≡◌};
-ghost use Rattle.replay_fields.specs.declared.Line.TheVariants.{None as NoLine};
 ghost use Rattle.state.specs.State.{fresh_of};
 ghost use Rattle.replay_lines.specs.Replay.{observe_line};
 
-use replay_fields::Line;
+use replay_fields::Observation;
 use state::{GovernorState, Observed};
 
 // A line that is no observation counts as refusal 5, and leaves the state as it was.
 fn unchanged(s: GovernorState) -> Observed
-    ensures { result ≡ observe_line s NoLine }
+    ensures { result ≡ observe_line s None }
 {
     Observed {
         refusal: refusals::BAD_RECORD,
@@ -18,12 +17,12 @@ fn unchanged(s: GovernorState) -> Observed
 }
 
 // What a line makes of the governor that the last one left.
-pub(crate) fn observe_line(o: Observed, line: Line) -> Observed
+pub(crate) fn observe_line(o: Observed, line: Option<Observation>) -> Observed
     ensures { result ≡ observe_line o.state line }
 {
     match line {
-        Line::Observation(now, p) => governor::observe(o.state, now, p),
-        Line::None => unchanged(o.state),
+        Some(seen) => governor::observe(o.state, seen.now, seen.sample),
+        None => unchanged(o.state),
     }
 }
 

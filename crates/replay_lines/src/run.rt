@@ -8,7 +8,7 @@ ghost use Rattle.replay_lines.specs.Replay.{printed, replay_from, replayed_of, r
 
 use crate::lines::{begun, observe_line};
 use replay_fields::line_of;
-use replay_text::reader::{COMMA, LF, LineAt, next_line};
+use replay_text::reader::{COMMA, LF, Lines};
 use state::Observed;
 use text_writers::put_row;
 
@@ -55,18 +55,12 @@ fn run(text: &[u8], out: &mut [u8]) -> usize
     let mut o = begun();
     let mut number: u64 = 1;
     let mut at: usize = 0;
-    let mut place: usize = 0;
-    loop {
-        let found = next_line(text, place);
-        let LineAt::Part { start, end, next } = found else {
-            return at;
-        };
-        o = observe_line(o, line_of(&text[start..end]));
-        let numbers = line_numbers(number, o);
-        at += put_row(out, at, &numbers, COMMA, LF);
+    for line in Lines::of(text) {
+        o = observe_line(o, line_of(line));
+        at += put_row(out, at, &line_numbers(number, o), COMMA, LF);
         number += 1;
-        place = next;
     }
+    at
 }
 
 // The output for a text, in a lent buffer. A first run over none of it tells the length, so that a buffer too short is left alone.

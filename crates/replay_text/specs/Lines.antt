@@ -1,11 +1,11 @@
 -- Lines and fields of RFC 4180 without quotes: a line ends with LF or CRLF, the last end is optional, and fields are parted by commas. Definitions only.
 pub mod Fields
+pub mod Left
 pub mod Lengths
 pub mod NextLine
 pub mod Steps
-use Rattle.std.specs.Prelude.{ℕ, suc, ◌+◌, ◌-◌, cond, ◌&&◌, List, [], ◌∷◌, ◌++◌, length, drop, get_or, leb, ltb, eqb}
-use Rattle.replay_text.specs.declared.reader.LineAt.{LineAt}
-use Rattle.replay_text.specs.declared.reader.LineAt.TheVariants.{Part, None as Nothing}
+use Rattle.std.specs.Prelude.{Option, Some, None, ℕ, suc, ◌+◌, ◌-◌, cond, ◌&&◌, List, [], ◌∷◌, ◌++◌, length, drop, get_or, leb, ltb, eqb}
+use Rattle.replay_text.specs.declared.reader.LinePart.{LinePart}
 
 abbrev pub LF : ℕ
 LF = 10
@@ -56,8 +56,8 @@ unfoldable pub end_of : List ℕ → ℕ → ℕ → ℕ
 end_of text at stop = cond (ltb at stop && eqb (get_or text (stop - 1) 0) CR) (stop - 1) stop
 
 -- the line that begins at a place: its start, its end, and where the next begins
-unfoldable pub line_at_of : List ℕ → ℕ → LineAt
+unfoldable pub line_at_of : List ℕ → ℕ → Option LinePart
 line_at_of text at =
     let stop = find_of text LF at in
-    cond (leb (length text) at) Nothing
-    (cond (leb (length text) stop) (Part at stop stop) (Part at (end_of text at stop) (stop + 1)))
+    cond (leb (length text) at) None
+    (cond (leb (length text) stop) (Some (record { start = at; end = stop; next = stop })) (Some (record { start = at; end = end_of text at stop; next = stop + 1 })))

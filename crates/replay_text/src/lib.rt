@@ -1,4 +1,5 @@
-// The text of `replay`: its lines.
+// The text of `replay`: its lines and their fields.
 #![tactic(auto)]
 
+pub mod fields;
 pub mod reader;

@@ -1,17 +1,16 @@
 // The calls of the replay's text.
 #![tactic(auto)]
 
-use numerals::Number;
 use replay_lines::run;
 use replay_lines::run::Replayed;
 use rows_texts as texts;
 use rows_words::words;
 use rows_words::words::{BYTES, SHORT, WORDS};
 
-fn number_words(n: Number) -> [u64; 2] {
+fn number_words(n: Option<u64>) -> [u64; 2] {
     match n {
-        Number::Value(value) => [1, value],
-        Number::None => [0, 0],
+        Some(value) => [1, value],
+        None => [0, 0],
     }
 }
 

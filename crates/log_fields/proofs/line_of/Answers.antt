@@ -1,33 +1,30 @@
--- `log_fields::line_of` meets its contract. The invariant: the first i fields are numbers of their columns and stand among the words, and the next begins at `at`.
-use Rattle.std.proofs.Common.{◌≡◌, sym, ◌∙◌, ◌+◌, ◌<◌, arith}
-use Rattle.log_fields.specs.Line.Pairs.{reading-more, reading_bad, reading-short, reading-over, last_bad, last-good, no_line}
-use Rattle.decisions.specs.Decision.{decision_width}
+-- `log_fields::line_of` meets its contract. The invariant: the fields before the column are numbers of their columns and stand among the words, and the others are left.
+use Rattle.std.proofs.Common.{◌≡◌, sym, ◌∙◌, ◌<◌, arith}
+use Rattle.replay_text.specs.Lines.Left.{fields_left}
+use Rattle.log_fields.specs.Line.Pairs.{reading-more, reading_bad, reading-short, reading-last, no_line}
 use Rattle.log_fields.proofs.line_of.Goals as goal
 
-pub returns-then-line-end : goal.returns-then-line-end
-returns-then-line-end c = let l = c.loop-i in
-    let k : l.i + 1 < decision_width = omega arith in
-    no_line _ (reading-short _ _ _ _ l.invariant k (rw c.find-end.ensures.value at c.if-line-end.true))
+pub returns-in_err-next : goal.returns-in_err-next
+returns-in_err-next c = let l = c.loop-column in
+    let k : l.column < 14 = omega arith in
+    c.from_residual.ensures ∙ sym (no_line _ (reading-short _ _ _ _ l.invariant k (rw c.in_err-next.was at c.next.ensures.steps).0))
 
-pub returns-in_default : goal.returns-in_default
-returns-in_default c = no_line _ (reading_bad _ _ _ _ c.loop-i.invariant _ c.find-end.ensures.value c.if-line-end.false (sym c.number_in.ensures ∙ c.in_default.is))
+pub returns-in_err-word : goal.returns-in_err-word
+returns-in_err-word c = let l = c.loop-column in
+    let k : l.column < 14 = omega arith in
+    c.from_residual-in_err-word.ensures ∙ sym (no_line _ (reading_bad _ _ _ _ l.invariant _ (fields_left c.next.new.self) k (rw c.in_ok-next.was at c.next.ensures.steps) (sym c.number_in.ensures ∙ c.in_err-word.was)))
 
-pub loop-i-preserved : goal.loop-i-preserved
-loop-i-preserved c = let l = c.loop-i in
-    let k : l.i + 1 < decision_width = omega arith in
-    reading-more _ _ _ _ l.invariant _ _ k c.find-end.ensures.value c.if-line-end.false (sym c.number_in.ensures ∙ c.in-Value.is)
+pub loop-column-preserved : goal.loop-column-preserved
+loop-column-preserved c = let l = c.loop-column in
+    let k : l.column < 14 = omega arith in
+    reading-more _ _ _ _ l.invariant _ (fields_left c.next.new.self) _ k (rw c.in_ok-next.was at c.next.ensures.steps) (sym c.number_in.ensures ∙ c.in_ok-word.was)
 
-pub returns-then-find-line : goal.returns-then-find-line
-returns-then-find-line c = let l = c.loop-i in
-    let e : l.i ≡ 13 = omega arith in
-    no_line _ (reading-over _ _ _ (rw e at l.invariant) (rw c.find.ensures.value at c.if-find-line.true))
-
-pub returns-in_default-number_in : goal.returns-in_default-number_in
-returns-in_default-number_in c = let l = c.loop-i in
-    let e : l.i ≡ 13 = omega arith in
-    no_line _ (last_bad _ _ _ (rw e at l.invariant) (rw c.find.ensures.value at c.if-find-line.false) (sym c.number_in-2.ensures ∙ c.in_default-number_in.is))
+pub returns-then-is_some : goal.returns-then-is_some
+returns-then-is_some c = let l = c.loop-column in
+    let e : l.column ≡ 14 = omega arith in
+    sym (reading-last _ _ (fields_left c.next-2.new.self) _ _ (rw e at l.invariant) c.next-2.ensures.steps ∙ rw (sym c.is_some.ensures ∙ c.if-is_some.true))
 
 pub returns : goal.returns
-returns c = let l = c.loop-i in
-    let e : l.i ≡ 13 = omega arith in
-    last-good _ _ _ (rw e at l.invariant) (rw c.find.ensures.value at c.if-find-line.false) _ (sym c.number_in-2.ensures ∙ c.in-Value-number_in.is)
+returns c = let l = c.loop-column in
+    let e : l.column ≡ 14 = omega arith in
+    sym (reading-last _ _ (fields_left c.next-2.new.self) _ _ (rw e at l.invariant) c.next-2.ensures.steps ∙ rw (sym c.is_some.ensures ∙ c.if-is_some.false))

@@ -1,19 +1,19 @@
 -- The fields of a line, one at a time.
-use Rattle.std.specs.Prelude.{◌≡◌, ℕ, suc, ◌+◌, ◌-◌, ◌≤◌, ◌<◌, Bool, false, List, [], ◌∷◌, ◌++◌, take, drop, get_or, replicate, ltb}
+use Rattle.std.specs.Prelude.{◌≡◌, Option, Some, None, MatchOption, cond, ℕ, suc, ◌+◌, ◌<◌, Bool, false, List, [], ◌∷◌, ◌++◌, take, drop, get_or, replicate}
+use Rattle.std.specs.Borrow.{Bor}
+use Rattle.std.specs.Option.{is_some, unwrap_or}
 use Rattle.std.proofs.Math.Path.{refl}
-use Rattle.std.proofs.Common.{sym, ◌∙◌, ap, arith, true≢false, length-drop, drop-cons, ltb-true, ltb-false}
+use Rattle.std.proofs.Common.{sym, ◌∙◌, ap, arith, true≢false, drop-cons}
 use Rattle.std.proofs.Math.Numerals.{add-one}
-use Rattle.std.proofs.Math.Bool.{true, and-false}
+use Rattle.std.proofs.Math.Bool.{true}
 use Rattle.std.proofs.Math.ListN.{length, set, length-set}
 use Rattle.std.proofs.Math.Seq.{take-suc-set, take_all, append_snoc}
+use mathlib.Core.List.{append-nil}
 use Rattle.lists.specs.Tests.{both, by-test}
 use Rattle.decisions.specs.Decision.{decision_width}
-use Rattle.numerals.specs.declared.Number.TheVariants.{Value, None as NoNumber}
 use Rattle.numerals.specs.Numbers.{is_value, decimal_of, bits_of}
 use Rattle.columns.specs.Columns.{Form, D, K, Column, columns, form_of, is_float}
-use Rattle.replay_text.specs.Lines.{comma, fields_of, find_of}
-use Rattle.replay_text.specs.Lines.Fields.{field-more, field-last}
-use Rattle.log_fields.specs.Line.{number_in, reads, words_in, line_of}
+use Rattle.log_fields.specs.Line.{number_in, reads, words_in, DecisionLine, line_of, words_of_line}
 
 -- ---- a field by its column's form
 
@@ -35,76 +35,55 @@ past = record { name = ""; form = D }
 next : (i : ℕ) → i < decision_width → drop i columns ≡ get_or columns i past ∷ drop (i + 1) columns
 next i h = rw add-one (drop-cons columns i past h)
 
--- from a place on there is a field at least
-some : (line : List ℕ) (at : ℕ) → reads [] (fields_of (drop at line)) ≡ false
-unfolding reads
-some line at = go (ltb (find_of line comma at) (length line)) refl
-  where
-    go : (t : Bool) → ltb (find_of line comma at) (length line) ≡ t → reads [] (fields_of (drop at line)) ≡ false
-    go true e = rw (field-more line at _ refl (ltb-true _ _ e))
-    go false e = rw (field-last line at (ltb-false _ _ e))
+-- ---- the reading: i fields are numbers of their columns and stand among the words, and the others are left
 
--- ---- the reading: i fields are numbers of their columns, and the next field begins at a place
-
-pub record Reading (line words : List ℕ) (at i : ℕ) : Type 0 where
-  pub within : at ≤ length line
-  pub few : i < decision_width
+pub record Reading (fs left : List (List ℕ)) (words : List ℕ) (i : ℕ) : Type 0 where
   pub long : length words ≡ decision_width
-  pub good : reads columns (fields_of line) ≡ reads (drop i columns) (fields_of (drop at line))
-  pub taken : words_in columns (fields_of line) ≡ take i words ++ words_in (drop i columns) (fields_of (drop at line))
+  pub good : reads columns fs ≡ reads (drop i columns) left
+  pub taken : words_in columns fs ≡ take i words ++ words_in (drop i columns) left
 
-module _ (line words : List ℕ) (at i : ℕ) (r : Reading line words at i) where
-  pub reading-more : (e w : ℕ) → i + 1 < decision_width → e ≡ find_of line comma at → e < length line → number_in (form_of i) (take (e - at) (drop at line)) ≡ Value w → Reading line (set words i w) (e + 1) (i + 1)
+module _ (fs left : List (List ℕ)) (words : List ℕ) (i : ℕ) (r : Reading fs left words i) where
+  pub reading-more : (f : List ℕ) (rest : List (List ℕ)) (w : ℕ) → i < decision_width → left ≡ f ∷ rest → number_in (form_of i) f ≡ Some w → Reading fs rest (set words i w) (i + 1)
   unfolding reads words_in
-  reading-more e w k is h n =
+  reading-more f rest w k is n =
       let m : i < length words = omega (arith, r.long) in
-      record {
-        within = omega arith;
-        few = k;
-        long = length-set words i w ∙ r.long;
-        good = r.good ∙ rw (next i r.few, field-more line at e is h, n);
-        taken = r.taken ∙ rw (next i r.few, field-more line at e is h, n, add-one i, take-suc-set words i w m, append_snoc);
-      }
+      record { long = length-set words i w ∙ r.long; good = r.good ∙ rw (next i k, is, n); taken = r.taken ∙ rw (next i k, is, n, add-one i, take-suc-set words i w m, append_snoc) }
 
   -- a field that is no number of its column
-  pub reading_bad : (e : ℕ) → e ≡ find_of line comma at → e < length line → number_in (form_of i) (take (e - at) (drop at line)) ≡ NoNumber → reads columns (fields_of line) ≡ false
+  pub reading_bad : (f : List ℕ) (rest : List (List ℕ)) → i < decision_width → left ≡ f ∷ rest → number_in (form_of i) f ≡ None → reads columns fs ≡ false
   unfolding reads
-  reading_bad e is h n = r.good ∙ rw (next i r.few, field-more line at e is h, n)
+  reading_bad f rest k is n = r.good ∙ rw (next i k, is, n)
 
-  -- no more commas, and more columns
-  pub reading-short : i + 1 < decision_width → length line ≤ find_of line comma at → reads columns (fields_of line) ≡ false
+  -- no more fields, and more columns
+  pub reading-short : i < decision_width → left ≡ [] → reads columns fs ≡ false
   unfolding reads
-  reading-short k h = r.good ∙ rw (next i r.few, field-last line at h, next (i + 1) k, and-false)
-
--- ---- the last column
-
-module _ (line words : List ℕ) (at : ℕ) (r : Reading line words at 13) where
-  -- a comma behind it
-  pub reading-over : find_of line comma at < length line → reads columns (fields_of line) ≡ false
-  unfolding reads
-  reading-over h = r.good ∙ rw (field-more line at _ refl h, some line (find_of line comma at + 1), and-false)
-
-  module _ (h : length line ≤ find_of line comma at) where
-    rest : fields_of (drop at line) ≡ take (length line - at) (drop at line) ∷ []
-    rest = field-last line at h ∙ rw (take_all (length line - at) (drop at line) (simp length-drop (omega arith)))
-
-    pub last_bad : number_in (form_of 13) (take (length line - at) (drop at line)) ≡ NoNumber → reads columns (fields_of line) ≡ false
-    unfolding reads
-    last_bad n = r.good ∙ rw (rest, n)
-
-    pub last-good : (w : ℕ) → number_in (form_of 13) (take (length line - at) (drop at line)) ≡ Value w → record { good = true; words = set words 13 w } ≡ line_of (fields_of line)
-    unfolding reads words_in line_of
-    last-good w n =
-        let g : reads columns (fields_of line) ≡ true = r.good ∙ rw (rest, n) in
-        let f : length (set words 13 w) ≤ 14 = simp length-set (omega (arith, r.long)) in
-        let t : words_in columns (fields_of line) ≡ set words 13 w =
-        r.taken ∙ rw (rest, n) (sym (take-suc-set words 13 w (omega (arith, r.long))) ∙ take_all 14 (set words 13 w) f) in
-        rw (g, t)
+  reading-short k is = r.good ∙ rw (next i k, is)
 
 -- a line that is none
-pub no_line : (line : List ℕ) → reads columns (fields_of line) ≡ false → record { good = false; words = replicate decision_width 0 } ≡ line_of (fields_of line)
+pub no_line : (fs : List (List ℕ)) → reads columns fs ≡ false → words_of_line (line_of fs) ≡ None
 unfolding line_of
-no_line line e = rw e
+no_line fs e = rw e
+
+-- ---- behind the last column
+
+module _ (fs left : List (List ℕ)) (words : List ℕ) (r : Reading fs left words 14) where
+  -- a field more
+  pub reading-over : (f : List ℕ) (rest : List (List ℕ)) → left ≡ f ∷ rest → reads columns fs ≡ false
+  unfolding reads
+  reading-over f rest is = r.good ∙ rw is
+
+  pub reading_all : left ≡ [] → words_of_line (line_of fs) ≡ Some words
+  unfolding reads words_in line_of
+  reading_all is =
+      let g : reads columns fs ≡ true = r.good ∙ rw is in
+      let t : words_in columns fs ≡ words = r.taken ∙ rw append-nil (take_all 14 words (omega (arith, r.long))) in
+      rw (g, t)
+
+-- whether a field came behind the last column decides
+pub reading-last : (fs left new : List (List ℕ)) (words : List ℕ) (r : Option (Bor (List ℕ))) → Reading fs left words 14 → MatchOption r ((left ≡ []) × (new ≡ [])) (λ x. left ≡ x.now ∷ new)
+    → words_of_line (line_of fs) ≡ cond (is_some r) None (Some words)
+reading-last fs left new words None r m = reading_all fs left words r m.0
+reading-last fs left new words (Some x) r m = no_line fs (reading-over fs left words r x.now new m)
 
 -- ---- how many words a line has
 
@@ -118,3 +97,20 @@ words_many (c ∷ cs) (f ∷ fs) e = ap suc (words_many cs fs (both (is_value (n
 pub words_long : (fs : List (List ℕ)) → length (line_of fs).words ≡ decision_width
 unfolding line_of
 words_long fs = by-test (λ (ws : List ℕ). length ws ≡ decision_width) (reads columns fs) _ _ (words_many columns fs) (λ _. refl)
+
+-- ---- a line's words, or none
+
+pub zeros_or_words : (fs : List (List ℕ)) → unwrap_or (words_of_line (line_of fs)) (replicate decision_width 0) ≡ (line_of fs).words
+unfolding line_of
+zeros_or_words fs = go (reads columns fs)
+  where
+    go : (t : Bool) → unwrap_or (cond t (Some (cond t (words_in columns fs) (replicate decision_width 0))) None) (replicate decision_width 0) ≡ cond t (words_in columns fs) (replicate decision_width 0)
+    go true = refl
+    go false = refl
+
+pub good_some : (l : DecisionLine) → is_some (words_of_line l) ≡ l.good
+good_some l = go l.good
+  where
+    go : (t : Bool) → is_some (cond t (Some l.words) None) ≡ t
+    go true = refl
+    go false = refl

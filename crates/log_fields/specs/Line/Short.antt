@@ -1,9 +1,7 @@
 -- A good line has at most 269 bytes: eight numbers of 20 digits, six of 16, and thirteen commas.
-use Rattle.std.specs.Prelude.{◌≡◌, refl, ℕ, ◌+◌, ◌≤◌, true, List, [], ◌∷◌, length}
+use Rattle.std.specs.Prelude.{◌≡◌, refl, Option, Some, None, ℕ, ◌+◌, ◌≤◌, true, List, [], ◌∷◌, length}
 use Rattle.std.proofs.Common.{sym, arith, true≢false}
 use Rattle.lists.specs.Tests.{both}
-use Rattle.numerals.specs.declared.Number.{Number}
-use Rattle.numerals.specs.declared.Number.TheVariants.{Value, None as NoNumber}
 use Rattle.numerals.specs.Numbers.{is_value, value_of, decimal_of, bits_of}
 use Rattle.numerals.specs.Numbers.Accepted.{bits_accepted}
 use Rattle.numerals.specs.Numbers.Short.{decimal-short}
@@ -22,9 +20,9 @@ abbrev most_in : List Column → ℕ
 most_in [] = 0
 most_in (c ∷ cs) = most_of c.form + 1 + most_in cs
 
-a-value : (m : Number) → is_value m ≡ true → m ≡ Value (value_of m)
-a-value (Value n) e = refl
-a-value NoNumber e = absurd (true≢false (sym e))
+a-value : (m : Option ℕ) → is_value m ≡ true → m ≡ Some (value_of m)
+a-value (Some n) e = refl
+a-value None e = absurd (true≢false (sym e))
 
 field-short : (f : Form) (field : List ℕ) → is_value (number_in f field) ≡ true → length field ≤ most_of f
 unfolding number_in

@@ -1,45 +1,31 @@
--- `log_text::put_lines` meets its contract. The invariant: what is left to write is the words of the lines from `place` on, and `place` bounds how many came before.
-use Rattle.std.proofs.Common.{length, take, drop, [], ◌≡◌, ◌∙◌, ap, ◌+◌, ◌-◌, ◌*◌, arith}
+-- `log_text::put_lines` meets its contract. The invariant: what is left to write is the words of the lines that are still to come.
+use Rattle.std.proofs.Common.{length, ◌≡◌, ◌∙◌, ap, ◌+◌, ◌*◌, arith}
 use Rattle.log_text.specs.Text.Steps.{line_long, words_more, words-end}
-use Rattle.replay_text.specs.Lines.NextLine.{line_at_says}
-use Rattle.lists.specs.Writes.{fill_start, fill-part, fill_end}
+use Rattle.replay_text.specs.Lines.Lengths.{lines-few}
+use Rattle.replay_text.specs.Lines.{fields_of}
+use Rattle.log_fields.specs.Line.Pairs.{zeros_or_words}
+use Rattle.lists.specs.Writes.{fill-part, fill_end}
 use Rattle.decisions.specs.Decision.{decision_width}
 use Rattle.log_text.specs.Text.{read_line}
-use Rattle.replay_text.specs.Lines.{lines_of}
 use Rattle.log_text.proofs.put_lines.Goals as goal
 
-pub loop-start-init : goal.loop-start-init
-loop-start-init c = (omega arith, omega arith, omega arith, fill_start _ _ _)
+pub overflow_mul-n : goal.overflow_mul-n
+overflow_mul-n c = omega (arith, ap length c.in-Some.ensures.steps, lines-few c.args.text.now, c.loop-line.invariant.0, c.requires)
 
-pub shape_of-words-in_default : goal.shape_of-words-in_default
-shape_of-words-in_default c = c.loop-start.invariant.3.same
+pub overflow_add-n : goal.overflow_add-n
+overflow_add-n c = omega (arith, ap length c.in-Some.ensures.steps, lines-few c.args.text.now, c.loop-line.invariant.0, c.requires)
 
-pub returns-in_default : goal.returns-in_default
-returns-in_default c = let t = c.args.text.now in
-    let says : lines_of (drop c.loop-start.place t) ≡ [] = rw (← c.next_line-found.ensures, c.in_default.is) at (line_at_says t c.loop-start.place) in
-    (omega (arith, c.loop-start.invariant.2, ap length says), fill_end _ _ _ _ _ (rw (words-end _ says) at c.loop-start.invariant.3))
-
-pub slice_bounds-line_of-count : goal.slice_bounds-line_of-count
-slice_bounds-line_of-count c = let h = rw (← c.next_line-found.ensures, c.in-Part.is) at (line_at_says c.args.text.now c.loop-start.place) in h.order
-
-pub slice_bounds-line_of-start : goal.slice_bounds-line_of-start
-slice_bounds-line_of-start c = let h = rw (← c.next_line-found.ensures, c.in-Part.is) at (line_at_says c.args.text.now c.loop-start.place) in h.order
-
-pub slice_bounds-line_of-end : goal.slice_bounds-line_of-end
-slice_bounds-line_of-end c = let h = rw (← c.next_line-found.ensures, c.in-Part.is) at (line_at_says c.args.text.now c.loop-start.place) in h.room
-
-pub loop-start-smaller : goal.loop-start-smaller
-loop-start-smaller c = let h = rw (← c.next_line-found.ensures, c.in-Part.is) at (line_at_says c.args.text.now c.loop-start.place) in
-    omega (arith, h.on, h.within)
-
-pub loop-start-preserved : goal.loop-start-preserved
-loop-start-preserved c = let h = rw (← c.next_line-found.ensures, c.in-Part.is) at (line_at_says c.args.text.now c.loop-start.place) in
-    let p = c.in-Part in
-    let t = take (p.end - p.start) (drop p.start c.args.text.now) in
+pub loop-line-preserved : goal.loop-line-preserved
+loop-line-preserved c = let l = c.loop-line in
+    let s = c.in-Some.ensures.steps in
+    let t = c.in-Some.line.now in
     let w = line_long t in
-    let k : decision_width * (c.loop-start.n + 1) ≡ decision_width * c.loop-start.n + length (read_line t).words = omega arith in (
-      h.within,
-      omega (arith, h.on, c.loop-start.invariant),
-      omega (arith, c.loop-start.invariant.2, ap length h.lines),
-      fill-part _ _ _ _ _ (read_line t).words _ _ _ (rw (words_more _ _ _ h.lines) at c.loop-start.invariant.3) (record { ends = k; stands = c.put_words.ensures ∙ rw c.line_of-line.ensures }),
+    let k : decision_width * (l.n + 1) ≡ decision_width * l.n + length (read_line t).words = omega arith in
+    let d : c.unwrap_or-decision.result ≡ (read_line t).words = c.unwrap_or-decision.ensures ∙ rw c.line_of.ensures (zeros_or_words (fields_of t)) in (
+      omega (arith, ap length s, l.invariant.0),
+      fill-part _ _ _ _ _ (read_line t).words _ _ _ (rw (words_more _ _ _ s) at l.invariant.1) (record { ends = k; stands = c.put_words.ensures ∙ rw d }),
     )
+
+pub returns : goal.returns
+returns c = let e = c.in-None.ensures.steps.0 in
+    (omega (arith, ap length e, c.loop-line.invariant.0), fill_end _ _ _ _ _ (rw (words-end _ e) at c.loop-line.invariant.1))

@@ -1,30 +1,33 @@
--- `numerals::digits` meets its contract.
-use Rattle.std.proofs.Common.{refl, sym, ◌∙◌, div-lt_iff_lt-mul, le-div_iff_mul-le, arith}
-use Rattle.numerals.specs.Numbers.Reading.{number-end, number_more, number_stray, number-over}
+-- `numerals::digits` meets its contract: what is left to read makes the same number from n on.
+use Rattle.std.proofs.Common.{sym, ◌∙◌, get_or, arith}
+use Rattle.numerals.specs.Numbers.Reading.{number-end, number_more, number_stray, number-over, digit_same, digit_stray}
 use Rattle.numerals.proofs.digits.Goals as goal
 
-pub loop-i-init : goal.loop-i-init
-loop-i-init c = (omega arith, omega arith, refl)
+pub returns-in_err-digit : goal.returns-in_err-digit
+returns-in_err-digit c = let l = c.loop-byte in
+    let d = digit_stray c.args.base _ c.requires.1 (rw c.from.ensures at c.in_err-digit.ensures.value) in
+    c.from_residual.ensures ∙ sym (l.invariant.1 ∙ number_stray _ l.n _ l.byte-index c.loop-byte-test.true d)
 
-pub returns-then-base-d : goal.returns-then-base-d
-returns-then-base-d c = let b = c.args.base in let s = c.args.s.now in
-    sym (c.loop-i.invariant.2 ∙ number_stray b c.loop-i.n s c.loop-i.i c.loop-i-test.true (rw c.digit-d.ensures at c.if-base-d.true))
+pub returns-in_err-checked_mul : goal.returns-in_err-checked_mul
+returns-in_err-checked_mul c = let l = c.loop-byte in
+    let o = rw c.from-in-loop-byte.ensures at c.in_err-checked_mul.ensures in
+    c.from_residual-in_err-checked_mul.ensures ∙ sym (l.invariant.1 ∙ number-over _ l.n _ l.byte-index (omega arith) c.loop-byte-test.true (omega (arith, o)))
 
-pub returns-then-d-base : goal.returns-then-d-base
-returns-then-d-base c = let b = c.args.base in let s = c.args.s.now in
-    let o = (div-lt_iff_lt-mul c.requires).0 c.if-d-base.true in
-    sym (c.loop-i.invariant.2 ∙ number-over b c.loop-i.n s c.loop-i.i c.requires c.loop-i-test.true (omega (arith, o, c.digit-d.ensures)))
+pub returns-in_err-n : goal.returns-in_err-n
+returns-in_err-n c = let l = c.loop-byte in
+    let d = digit_same c.args.base (get_or c.args.s.now l.byte-index 0) c.requires.1 (rw c.from.ensures at c.in_ok-digit.ensures.value.0) in
+    let v = rw c.from.ensures at c.in_ok-digit.ensures.value.1 in
+    let m = rw c.from-in-loop-byte.ensures at c.in_ok-checked_mul.ensures.1 in
+    let o = rw (c.from-in-loop-byte-2.ensures, v, ← d, m) at c.in_err-n.ensures in
+    c.from_residual-in_err-n.ensures ∙ sym (l.invariant.1 ∙ number-over _ l.n _ l.byte-index (omega arith) c.loop-byte-test.true (omega (arith, o)))
 
-pub overflow_mul-n : goal.overflow_mul-n
-overflow_mul-n c = omega (arith, (le-div_iff_mul-le c.requires).0 c.if-d-base.false)
-
-pub overflow_add-n : goal.overflow_add-n
-overflow_add-n c = omega (arith, (le-div_iff_mul-le c.requires).0 c.if-d-base.false)
-
-pub loop-i-preserved : goal.loop-i-preserved
-loop-i-preserved c = let b = c.args.base in let s = c.args.s.now in let d = c.digit-d.ensures in
-    let o = (le-div_iff_mul-le c.requires).0 c.if-d-base.false in
-    (omega arith, omega arith, c.loop-i.invariant.2 ∙ number_more b c.loop-i.n s c.loop-i.i c.loop-i-test.true (rw d at c.if-base-d.false) ∙ rw (← d))
+pub loop-byte-preserved : goal.loop-byte-preserved
+loop-byte-preserved c = let l = c.loop-byte in
+    let e = rw c.from.ensures at c.in_ok-digit.ensures.value in
+    let d = digit_same c.args.base (get_or c.args.s.now l.byte-index 0) c.requires.1 e.0 in
+    let m = rw c.from-in-loop-byte.ensures at c.in_ok-checked_mul.ensures.1 in
+    let n = rw (c.from-in-loop-byte-2.ensures, e.1, ← d, m) at c.in_ok-n.ensures in
+    (omega arith, l.invariant.1 ∙ number_more _ l.n _ l.byte-index c.loop-byte-test.true (rw d e.0) ∙ rw n.1)
 
 pub returns : goal.returns
-returns c = sym (c.loop-i.invariant.2 ∙ number-end c.args.base c.loop-i.n c.args.s.now c.loop-i.i c.loop-i-test.false c.loop-i.invariant.1)
+returns c = let l = c.loop-byte in sym (l.invariant.1 ∙ number-end _ l.n _ l.byte-index (omega arith) l.invariant.0)

@@ -1,14 +1,13 @@
 -- What a text is accepted as, and that each number below 2^64 is accepted as written: in decimal, and as 16 hex digits, each of either case.
-use Rattle.std.specs.Prelude.{◌≡◌, refl, ℕ, zero, suc, ◌+◌, ◌*◌, ◌/◌, ◌%◌, ◌^◌, ◌≤◌, ◌<◌, Bool, true, false, cond, ◌&&◌, List, [], ◌∷◌, ◌++◌, length, get_or, ltb, eqb}
+use Rattle.std.specs.Prelude.{Some, None, ◌≡◌, refl, ℕ, zero, suc, ◌+◌, ◌*◌, ◌/◌, ◌%◌, ◌^◌, ◌≤◌, ◌<◌, Bool, true, false, cond, ◌&&◌, List, [], ◌∷◌, ◌++◌, length, get_or, ltb, eqb}
 use Rattle.std.proofs.Common.{sym, ◌∙◌, lt_trans, div-lt_iff_lt-mul, pow-suc, arith, length-append, lit<, lt-ltb, le-leb, ltb-true, ltb-false, eqb-true, ne_eqb}
 use Rattle.std.proofs.Math.Nat.{pow-zero}
 use Rattle.std.proofs.lemmas.Bool.{false≢true, lt-leb}
-use Rattle.numerals.specs.declared.Number.TheVariants.{Value, None as NoNumber}
 use Rattle.lists.specs.Tests.{by-test, both}
 use Rattle.numerals.specs.Numbers.{is_digit, all_of, value_from, digit_of, well_begun, decimal_of, is_hex, hex_digit_of, bits_of, digits_up_to, spelt, hex_byte, hex_digits}
 use Rattle.numerals.specs.Numbers.Digits.{tenth}
 
-taken : (t : Bool) (v n : ℕ) → cond t (Value v) NoNumber ≡ Value n → (t ≡ true) × (v ≡ n)
+taken : (t : Bool) (v n : ℕ) → cond t (Some v) None ≡ Some n → (t ≡ true) × (v ≡ n)
 taken true v n e = (refl, cc)
 taken false v n e = let z : ◌≡◌ {A = ℕ} 0 1 = cc in absurd (omega arith)
 
@@ -20,7 +19,7 @@ pub record Decimal (bs : List ℕ) (n : ℕ) : Type 0 where
   pub small : n < 2 ^ 64
   pub value : value_from digit_of 10 0 bs ≡ n
 
-pub decimal-accepted : (bs : List ℕ) (n : ℕ) → decimal_of bs ≡ Value n → Decimal bs n
+pub decimal-accepted : (bs : List ℕ) (n : ℕ) → decimal_of bs ≡ Some n → Decimal bs n
 unfolding decimal_of
 decimal-accepted bs n e =
     let t = taken (all_of is_digit bs && (well_begun bs && ltb (value_from digit_of 10 0 bs) (2 ^ 64))) (value_from digit_of 10 0 bs) n e in
@@ -33,7 +32,7 @@ pub record Bits (bs : List ℕ) (n : ℕ) : Type 0 where
   pub digits : all_of is_hex bs ≡ true
   pub value : value_from hex_digit_of 16 0 bs ≡ n
 
-pub bits_accepted : (bs : List ℕ) (n : ℕ) → bits_of bs ≡ Value n → Bits bs n
+pub bits_accepted : (bs : List ℕ) (n : ℕ) → bits_of bs ≡ Some n → Bits bs n
 unfolding bits_of
 bits_accepted bs n e =
     let t = taken (eqb (length bs) 16 && all_of is_hex bs) (value_from hex_digit_of 16 0 bs) n e in
@@ -92,7 +91,7 @@ written (suc k) n h =
       first = λ _. f.1;
     }
 
-pub decimal-spelt : (n : ℕ) → n < 2 ^ 64 → decimal_of (spelt n) ≡ Value n
+pub decimal-spelt : (n : ℕ) → n < 2 ^ 64 → decimal_of (spelt n) ≡ Some n
 unfolding decimal_of
 decimal-spelt n h = let w = written 19 n (lt_trans h (lit< tt)) in rw (w.digits, w.begun, w.value, lt-ltb n (2 ^ 64) h)
 
@@ -125,6 +124,6 @@ hex-written upper (suc k) n h =
       value = value_snoc hex_digit_of 16 0 (hex_digits upper k (n / 16)) (hex_byte (upper k) (n % 16)) ∙ rw (w.value, b.1) (omega arith);
     }
 
-pub bits_written : (upper : ℕ → Bool) (n : ℕ) → n < 2 ^ 64 → bits_of (hex_digits upper 16 n) ≡ Value n
+pub bits_written : (upper : ℕ → Bool) (n : ℕ) → n < 2 ^ 64 → bits_of (hex_digits upper 16 n) ≡ Some n
 unfolding bits_of
 bits_written upper n h = let w = hex-written upper 16 n h in rw (w.count, w.digits, w.value)

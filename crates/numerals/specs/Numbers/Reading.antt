@@ -1,11 +1,12 @@
 -- Digits of either kind, one at a time, and that both kinds of number are read so.
-use Rattle.std.specs.Prelude.{◌≡◌, refl, ℕ, suc, ◌+◌, ◌-◌, ◌*◌, ◌^◌, ◌≤◌, ◌<◌, Bool, true, false, cond, not, ◌&&◌, List, [], ◌∷◌, length, drop, get_or, leb, ltb, eqb}
+use Rattle.std.specs.Prelude.{Some, None, ◌≡◌, refl, ℕ, suc, ◌+◌, ◌-◌, ◌*◌, ◌^◌, ◌≤◌, ◌<◌, Bool, true, false, cond, not, ◌&&◌, List, [], ◌∷◌, length, drop, get_or, leb, ltb, eqb}
 use Rattle.std.proofs.Common.{sym, ◌∙◌, ap, lt_of_lt_of_le, mul-le-mul_right, le_of_eq, mul_assoc, le-mul_of_pos_right, le-add_right, add-one, arith, drop_of_length-le, drop-cons}
 use Rattle.std.proofs.Math.Nat.{pow-succ', pow-zero, le_trans}
 use Rattle.std.proofs.lemmas.Bool.{false≢true}
 use Rattle.std.proofs.Math.Bool.{and-false}
-use borrow.Author.Tests.{le-leb, lt-leb, lt-ltb, le-ltb, leb-true, ltb-true, eqb-true}
-use Rattle.numerals.specs.declared.Number.TheVariants.{Value, None as NoNumber}
+use borrow.Author.Tests.{le-leb, lt-leb, lt-ltb, le-ltb, leb-true, ltb-true, eqb-true, ne_eqb}
+use Rattle.std.proofs.lemmas.Bool.Decides.{nat_tests}
+use Rattle.std.specs.Char.{digit_value as std_value}
 use Rattle.lists.specs.Tests.{by-test, both, cond_and, cond_same}
 use Rattle.numerals.specs.Numbers.{is_digit, all_of, value_from, digit_of, well_begun, decimal_of, is_hex, hex_digit_of, bits_of, is_upper, is_lower, digit_value, number_from}
 
@@ -16,7 +17,7 @@ value_grows digit base n [] h = omega arith
 value_grows digit base n (b ∷ bs) h = le_trans (le_trans (le-mul_of_pos_right n h) (le-add_right (n * base) (digit b))) (value_grows digit base (n * base + digit b) bs h)
 
 module _ (base n : ℕ) (s : List ℕ) (i : ℕ) where
-  pub number-end : length s ≤ i → n < 2 ^ 64 → number_from base n (drop i s) ≡ Value n
+  pub number-end : length s ≤ i → n < 2 ^ 64 → number_from base n (drop i s) ≡ Some n
   unfolding number_from all_of value_from
   number-end h k = rw (drop_of_length-le s h, lt-ltb _ _ k)
 
@@ -24,15 +25,25 @@ module _ (base n : ℕ) (s : List ℕ) (i : ℕ) where
   unfolding number_from all_of value_from
   number_more h d = rw (drop-cons s i 0 h, lt-ltb _ _ d, add-one)
 
-  pub number_stray : i < length s → base ≤ digit_value (get_or s i 0) → number_from base n (drop i s) ≡ NoNumber
+  pub number_stray : i < length s → base ≤ digit_value (get_or s i 0) → number_from base n (drop i s) ≡ None
   unfolding number_from all_of
   number_stray h d = rw (drop-cons s i 0 h, le-ltb _ _ d)
 
-  pub number-over : 0 < base → i < length s → 2 ^ 64 ≤ n * base + digit_value (get_or s i 0) → number_from base n (drop i s) ≡ NoNumber
+  pub number-over : 0 < base → i < length s → 2 ^ 64 ≤ n * base + digit_value (get_or s i 0) → number_from base n (drop i s) ≡ None
   unfolding number_from value_from
   number-over z h o =
       let v = le_trans o (value_grows digit_value base (n * base + digit_value (get_or s i 0)) (drop (suc i) s) z) in
       rw (drop-cons s i 0 h, le-ltb _ _ v, and-false)
+
+-- the library's value of a digit is ours, to a base of at most 16; the letters behind F are digits to neither
+module _ (base b : ℕ) where
+  pub digit_same : base ≤ 16 → std_value b < base → digit_value b ≡ std_value b
+  unfolding digit_value
+  digit_same h d = grind (arith, nat_tests)
+
+  pub digit_stray : base ≤ 16 → (std_value b < base → ⊥) → base ≤ digit_value b
+  unfolding digit_value
+  digit_stray h d = grind (arith, nat_tests)
 
 -- ---- both kinds of number
 
@@ -81,23 +92,23 @@ value-below digit base n (b ∷ bs) h =
     let s : n * base + digit b + 1 ≤ (n + 1) * base = omega arith in
     lt_of_lt_of_le (value-below digit base (n * base + digit b) bs k.1) (le_trans (mul-le-mul_right (base ^ length bs) s) (le_of_eq (mul_assoc (n + 1) base (base ^ length bs) ∙ rw (← pow-succ'))))
 
-pub decimal-read : (bs : List ℕ) → decimal_of bs ≡ cond (well_begun bs) (number_from 10 0 bs) NoNumber
+pub decimal-read : (bs : List ℕ) → decimal_of bs ≡ cond (well_begun bs) (number_from 10 0 bs) None
 unfolding decimal_of number_from
 decimal-read bs = rw (← (all_same is_digit _ (λ b. (digit_is b).decimal) bs)) (go (all_of is_digit bs) refl)
   where
     go : (t : Bool) → all_of is_digit bs ≡ t
-        → cond (t && (well_begun bs && ltb (value_from digit_of 10 0 bs) (2 ^ 64))) (Value (value_from digit_of 10 0 bs)) NoNumber
-        ≡ cond (well_begun bs) (cond (t && ltb (value_from digit_value 10 0 bs) (2 ^ 64)) (Value (value_from digit_value 10 0 bs)) NoNumber) NoNumber
-    go false e = sym (cond_same (well_begun bs) NoNumber)
-    go true e = rw (value_same is_digit digit_value digit_of (λ b. (digit_is b).as_decimal) 10 0 bs e) (cond_and (well_begun bs) _ _ NoNumber)
+        → cond (t && (well_begun bs && ltb (value_from digit_of 10 0 bs) (2 ^ 64))) (Some (value_from digit_of 10 0 bs)) None
+        ≡ cond (well_begun bs) (cond (t && ltb (value_from digit_value 10 0 bs) (2 ^ 64)) (Some (value_from digit_value 10 0 bs)) None) None
+    go false e = sym (cond_same (well_begun bs) None)
+    go true e = rw (value_same is_digit digit_value digit_of (λ b. (digit_is b).as_decimal) 10 0 bs e) (cond_and (well_begun bs) _ _ None)
 
-pub bits_read : (bs : List ℕ) → bits_of bs ≡ cond (eqb (length bs) 16) (number_from 16 0 bs) NoNumber
+pub bits_read : (bs : List ℕ) → bits_of bs ≡ cond (eqb (length bs) 16) (number_from 16 0 bs) None
 unfolding bits_of number_from
 bits_read bs = rw (← (all_same is_hex _ (λ b. (digit_is b).hex) bs)) (go (eqb (length bs) 16) (all_of is_hex bs) refl refl)
   where
     go : (s t : Bool) → eqb (length bs) 16 ≡ s → all_of is_hex bs ≡ t
-        → cond (s && t) (Value (value_from hex_digit_of 16 0 bs)) NoNumber
-        ≡ cond s (cond (t && ltb (value_from digit_value 16 0 bs) (2 ^ 64)) (Value (value_from digit_value 16 0 bs)) NoNumber) NoNumber
+        → cond (s && t) (Some (value_from hex_digit_of 16 0 bs)) None
+        ≡ cond s (cond (t && ltb (value_from digit_value 16 0 bs) (2 ^ 64)) (Some (value_from digit_value 16 0 bs)) None) None
     go false t d e = refl
     go true false d e = refl
     go true true d e =
@@ -123,3 +134,9 @@ unfolding well_begun
 begun_more [] h = absurd (omega arith)
 begun_more (a ∷ []) h = absurd (omega arith)
 begun_more (a ∷ b ∷ s) h = refl
+
+pub begun_well : (s : List ℕ) → 0 < length s → (1 < length s → get_or s 0 0 ≡ 48 → ⊥) → well_begun s ≡ true
+unfolding well_begun
+begun_well [] h n = absurd (omega arith)
+begun_well (a ∷ []) h n = refl
+begun_well (a ∷ b ∷ s) h n = rw (ne_eqb a 48 (n (omega arith)))

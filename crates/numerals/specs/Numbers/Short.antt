@@ -1,9 +1,8 @@
 -- A decimal that is accepted has at most 20 digits.
-use Rattle.std.specs.Prelude.{◌≡◌, refl, ℕ, suc, ◌+◌, ◌*◌, ◌^◌, ◌≤◌, ◌<◌, Bool, true, false, List, [], ◌∷◌, length, leb, eqb}
+use Rattle.std.specs.Prelude.{Some, ◌≡◌, refl, ℕ, suc, ◌+◌, ◌*◌, ◌^◌, ◌≤◌, ◌<◌, Bool, true, false, List, [], ◌∷◌, length, leb, eqb}
 use Rattle.std.proofs.Common.{le_trans, lt_trans, not-le_of_lt, le-add_right, mul-le-mul, mul-le-mul_right, mul_assoc, arith, lit<, leb-true, leb-false}
 use Rattle.std.proofs.Math.Nat.{pow-zero, pow-succ', pow-le-pow_right}
 use Rattle.std.proofs.lemmas.Bool.{eqb-false, not-true}
-use Rattle.numerals.specs.declared.Number.TheVariants.{Value}
 use Rattle.lists.specs.Tests.{both}
 use Rattle.numerals.specs.Numbers.{is_digit, all_of, value_from, digit_of, well_begun, decimal_of}
 use Rattle.numerals.specs.Numbers.Accepted.{decimal-accepted}
@@ -22,7 +21,7 @@ unfolding all_of well_begun
 first_some a b bs d w = omega (arith, between 48 57 a (both (is_digit a) _ d).0, eqb-false a 48 (not-true (eqb a 48) w))
 
 -- with 21 digits it would be 10^20 or more, which is above 2^64
-pub decimal-short : (bs : List ℕ) (n : ℕ) → decimal_of bs ≡ Value n → length bs ≤ 20
+pub decimal-short : (bs : List ℕ) (n : ℕ) → decimal_of bs ≡ Some n → length bs ≤ 20
 unfolding value_from
 decimal-short [] n e = omega arith
 decimal-short (a ∷ []) n e = omega arith

@@ -1,5 +1,5 @@
 -- The output for any text is at most 1,179,648 bytes long: at most 65,536 lines, each of at most 18 bytes.
-use Rattle.std.specs.Prelude.{◌≡◌, ℕ, suc, ◌+◌, ◌*◌, ◌≤◌, ◌<◌, Bool, true, false, cond, not, List, [], ◌∷◌, ◌++◌, length, ltb, eqb, Float}
+use Rattle.std.specs.Prelude.{◌≡◌, Option, Some, None, ℕ, suc, ◌+◌, ◌*◌, ◌≤◌, ◌<◌, Bool, true, false, cond, not, List, [], ◌∷◌, length, ltb, Float}
 use Rattle.std.proofs.Common.{arith, length-append, ltb-false, le-ltb}
 use Rattle.refusals.specs.Refusals.{none}
 use Rattle.state.specs.declared.GovernorState.{GovernorState}
@@ -16,10 +16,10 @@ use Rattle.sound.specs.Sound.{sound_of}
 use Rattle.pressure.specs.Pacing.{pacing_of}
 use Rattle.kinds.specs.Vector.{dominant_of}
 use Rattle.pressure.specs.Pacing.Bounds.{delay_most}
-use Rattle.replay_fields.specs.declared.Line.{Line}
-use Rattle.replay_fields.specs.declared.Line.TheVariants.{Observation, None as NoLine}
+use Rattle.replay_fields.specs.declared.Observation.{Observation}
 use Rattle.lists.specs.Tests.{by-test}
-use Rattle.replay_text.specs.Lines.{LF, parts_from, without_cr, last_line, lines_of, fields_of}
+use Rattle.replay_text.specs.Lines.{lines_of, fields_of}
+use Rattle.replay_text.specs.Lines.Lengths.{lines-few}
 use Rattle.numerals.specs.Numbers.Digits.{digits-few}
 use Rattle.replay_fields.specs.Fields.{line_of}
 use Rattle.replay_lines.specs.Replay.{five, printed, observe_line, replay_from, replay_of, replayed_of}
@@ -52,13 +52,13 @@ fault_few false true c = omega arith
 fault_few false false true = omega arith
 fault_few false false false = omega arith
 
-refusal-few : (s : GovernorState) (l : Line) → (observe_line s l).refusal < 10
+refusal-few : (s : GovernorState) (l : Option Observation) → (observe_line s l).refusal < 10
 unfolding observed_of observe_fault
-refusal-few s (Observation clock p) =
-    fault_few (not (sound_of source s.mode s.streaks)) (any_large p.l0_count p.l0_write_stall_trigger p.backlog_levels) (counters_full source s clock p)
-refusal-few s NoLine = omega arith
+refusal-few s (Some l) =
+    let p = l.sample in fault_few (not (sound_of source s.mode s.streaks)) (any_large p.l0_count p.l0_write_stall_trigger p.backlog_levels) (counters_full source s l.now p)
+refusal-few s None = omega arith
 
-pub printed-few : (n : ℕ) (s : GovernorState) (l : Line) → n < 100000 → length (printed n (observe_line s l)) ≤ 18
+pub printed-few : (n : ℕ) (s : GovernorState) (l : Option Observation) → n < 100000 → length (printed n (observe_line s l)) ≤ 18
 printed-few n s l h =
     let t = (observe_line s l).state in
     five-few n _ _ _ _ h (refusal-few s l) (mode-few t.mode) (dominant-few (dominant_of t.signals.pressure_vector)) (delay_few t.mode t.signals.last_pressure)
@@ -72,23 +72,11 @@ run-few s n (l ∷ ls) h =
     let o = observe_line s (line_of (fields_of l)) in
     omega (arith, length-append (printed n o) (replay_from o.state (suc n) ls), printed-few n s (line_of (fields_of l)) (omega arith), run-few o.state (suc n) ls (omega arith))
 
-last-few : (l : List ℕ) → length (last_line l) ≤ length l
-last-few [] = omega arith
-last-few (b ∷ bs) = omega arith
-
--- no more lines than bytes
-lines-few : (begun bytes : List ℕ) → length (parts_from LF without_cr last_line begun bytes) ≤ length begun + length bytes
-unfolding parts_from
-lines-few begun [] = omega (arith, last-few begun)
-lines-few begun (b ∷ bs) =
-    by-test (λ (ls : List (List ℕ)). length ls ≤ length begun + suc (length bs)) (eqb b LF) _ _ (λ _. omega (arith, lines-few [] bs)) λ _.
-    omega (arith, lines-few (begun ++ (b ∷ [])) bs, length-append begun (b ∷ []))
-
 pub output-most : (bytes : List ℕ) → length (replay_of bytes) ≤ 1179648
 unfolding replay_of
 output-most bytes =
     by-test (λ (l : List ℕ). length l ≤ 1179648) (ltb 65536 (length bytes)) [] _ (λ _. omega arith) λ e.
-    let h : length (lines_of bytes) ≤ 65536 = omega (arith, lines-few [] bytes, ltb-false 65536 (length bytes) e) in
+    let h : length (lines_of bytes) ≤ 65536 = omega (arith, lines-few bytes, ltb-false 65536 (length bytes) e) in
     omega (arith, run-few (fresh_of 0) 1 (lines_of bytes) (omega arith))
 
 -- a buffer of that many bytes is never refused

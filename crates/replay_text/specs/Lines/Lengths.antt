@@ -40,3 +40,18 @@ last-most (b ∷ bs) = omega arith
 -- a CR and an LF to each line at most
 pub lines-bytes : (text : List ℕ) → length text ≤ bytes_with 2 (lines_of text)
 lines-bytes text = omega (arith, parts-bytes LF 2 0 without_cr last_line (λ l. omega (arith, without_most l)) last-most [] text)
+
+last-few : (l : List ℕ) → length (last_line l) ≤ length l
+last-few [] = omega arith
+last-few (b ∷ bs) = omega arith
+
+few_from : (begun bytes : List ℕ) → length (parts_from LF without_cr last_line begun bytes) ≤ length begun + length bytes
+unfolding parts_from
+few_from begun [] = omega (arith, last-few begun)
+few_from begun (b ∷ bs) =
+    by-test (λ (ls : List (List ℕ)). length ls ≤ length begun + suc (length bs)) (eqb b LF) _ _ (λ _. omega (arith, few_from [] bs)) λ _.
+    omega (arith, few_from (begun ++ (b ∷ [])) bs, length-append begun (b ∷ []))
+
+-- no more lines than bytes
+pub lines-few : (text : List ℕ) → length (lines_of text) ≤ length text
+lines-few text = omega (arith, few_from [] text)

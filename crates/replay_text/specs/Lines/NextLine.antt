@@ -1,5 +1,5 @@
 -- What is found from a place on is the next line.
-use Rattle.std.specs.Prelude.{◌≡◌, Bool, cond, ◌&&◌, List, [], ◌∷◌, ◌++◌, drop, get_or, leb}
+use Rattle.std.specs.Prelude.{Option, Some, None, ◌≡◌, Bool, cond, ◌&&◌, List, [], ◌∷◌, ◌++◌, drop, get_or, leb}
 use Rattle.std.proofs.Math.Path.{refl, ap}
 use Rattle.std.proofs.Common.{sym, ◌∙◌, take_all}
 use Prim.Native.Nat.{ℕ, suc, ◌+◌, ◌-◌, ◌≤◌, ◌<◌}
@@ -9,8 +9,7 @@ use Rattle.std.proofs.Math.ListN.{length, take, length-drop, drop_of_length-le}
 use Rattle.std.proofs.Math.Seq.{take-suc, get_or-drop}
 use Rattle.std.proofs.Math.Dec.{ltb, eqb}
 use borrow.Author.Tests.{leb-true, leb-false, ltb-true, ltb-false}
-use Rattle.replay_text.specs.declared.reader.LineAt.{LineAt}
-use Rattle.replay_text.specs.declared.reader.LineAt.TheVariants.{Part, None as Nothing}
+use Rattle.replay_text.specs.declared.reader.LinePart.{LinePart}
 use Rattle.lists.specs.Tests.{by-test}
 use Rattle.replay_text.specs.Lines.{LF, CR, parts_from, without_cr, last_line, lines_of, find_of, end_of, line_at_of}
 use Rattle.replay_text.specs.Lines.Steps.{find_within, parts_more, parts_last}
@@ -23,9 +22,9 @@ pub record IsLine (text : List ℕ) (at start end next : ℕ) : Type 0 where
   pub lines : lines_of (drop at text) ≡ take (end - start) (drop start text) ∷ lines_of (drop next text)
 
 -- what a finding says of the lines from its place on
-abbrev pub Says : List ℕ → ℕ → LineAt → Type 0
-Says text at (Part start end next) = IsLine text at start end next
-Says text at Nothing = lines_of (drop at text) ≡ []
+abbrev pub Says : List ℕ → ℕ → Option LinePart → Type 0
+Says text at (Some l) = IsLine text at l.start l.end l.next
+Says text at None = lines_of (drop at text) ≡ []
 
 cond_cons : (b : ℕ) (t : Bool) (l m : List ℕ) → b ∷ cond t l m ≡ cond t (b ∷ l) (b ∷ m)
 cond_cons b true l m = refl

@@ -1,12 +1,13 @@
 -- Lines and fields, one at a time.
-use Rattle.std.specs.Prelude.{◌≡◌, Bool, drop, get_or, eqb}
-use Rattle.std.proofs.Common.{◌∙◌, add-one, arith, length-drop, drop_of_length-le, drop-cons, drop-drop}
+use Rattle.std.specs.Prelude.{◌≡◌, Bool, Some, None, not, drop, get_or, eqb, position, nat_lt}
+use Rattle.std.specs.List.{position_or_len}
+use Rattle.std.proofs.Common.{refl, ◌∙◌, add-one, arith, length-drop, drop_of_length-le, drop-cons, drop-drop}
 use Prim.Native.Nat.{ℕ, suc, ◌+◌, ◌-◌, ◌≤◌, ◌<◌}
 use Rattle.std.proofs.Math.Bool.{true, false, cond}
 use mathlib.Core.List.{List, [], ◌∷◌, ◌++◌, append-nil}
 use Rattle.std.proofs.Math.ListN.{length, take}
 use Rattle.std.proofs.Math.Seq.{append_snoc}
-use borrow.Author.Tests.{eq-eqb, ne_eqb}
+use borrow.Author.Tests.{eq-eqb, ne_eqb, ltb-false}
 use Rattle.replay_text.specs.Lines.{parts_from, before, find_of}
 
 -- ---- the first x
@@ -35,6 +36,31 @@ before-within x (b ∷ bs) = go (eqb b x) (before-within x bs)
 
 pub find_within : (x : ℕ) (l : List ℕ) (i : ℕ) → i ≤ length l → find_of l x i ≤ length l
 find_within x l i h = let e = length-drop i l in omega (arith, before-within x (drop i l))
+
+before_prefix : (x : ℕ) (l : List ℕ) → before x l ≡ position_or_len (λ (b : ℕ). eqb b x) l
+unfolding before
+before_prefix x [] = refl
+before_prefix x (b ∷ bs) = go (eqb b x) (before_prefix x bs)
+  where
+    go : (t : Bool) → before x bs ≡ position_or_len (λ (b : ℕ). eqb b x) bs → cond t 0 (suc (before x bs)) ≡ cond (not t) (1 + position_or_len (λ (b : ℕ). eqb b x) bs) 0
+    go true e = refl
+    go false e = omega arith
+
+-- by the library's word for the first place that passes
+module _ (x : ℕ) (l : List ℕ) where
+  pub before-some : (i : ℕ) → position (λ (b : ℕ). eqb b x) l ≡ Some i → before x l ≡ i
+  before-some i e = before_prefix x l ∙ go (nat_lt (position_or_len (λ (b : ℕ). eqb b x) l) (length l)) e
+    where
+      go : (t : Bool) → cond t (Some (position_or_len (λ (b : ℕ). eqb b x) l)) None ≡ Some i → position_or_len (λ (b : ℕ). eqb b x) l ≡ i
+      go true e = cc
+      go false e = cc
+
+  pub before-none : position (λ (b : ℕ). eqb b x) l ≡ None → before x l ≡ length l
+  before-none e = go (nat_lt (position_or_len (λ (b : ℕ). eqb b x) l) (length l)) refl e
+    where
+      go : (t : Bool) → nat_lt (position_or_len (λ (b : ℕ). eqb b x) l) (length l) ≡ t → cond t (Some (position_or_len (λ (b : ℕ). eqb b x) l)) None ≡ None → before x l ≡ length l
+      go true h e = cc
+      go false h e = omega (arith, before_prefix x l, before-within x l, ltb-false)
 
 -- ---- the parts that a separator makes
 

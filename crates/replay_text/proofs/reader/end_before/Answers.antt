@@ -1,16 +1,17 @@
 -- `replay_text::reader::end_before` meets its contract.
 use Rattle.std.proofs.Common.{lt-ltb, le-ltb, eq-eqb, ne_eqb}
+use Rattle.std.proofs.Math.Bool.{and-false}
 use Rattle.replay_text.specs.Lines.{end_of}
 use Rattle.replay_text.proofs.reader.end_before.Goals as goal
+use Rattle.replay_text.proofs.reader.end_before.Goals.{else-at-stop-via-then-at-stop+else-text-stop-eq-CR, else-at-stop-via-else-at-stop}
 
-pub returns-then-stop-at : goal.returns-then-stop-at
+pub returns-then-text-stop-eq-CR : goal.returns-then-text-stop-eq-CR
 unfolding end_of
-returns-then-stop-at c = simp (le-ltb _ _ c.if-stop-at.true)
-
-pub returns-then-text-last-eq-CR : goal.returns-then-text-last-eq-CR
-unfolding end_of
-returns-then-text-last-eq-CR c = simp (lt-ltb _ _ c.if-stop-at.false, eq-eqb _ _ c.if-text-last-eq-CR.true)
+returns-then-text-stop-eq-CR c = simp (lt-ltb _ _ c.if-at-stop.true, eq-eqb _ _ c.if-text-stop-eq-CR.true)
 
 pub returns : goal.returns
 unfolding end_of
-returns c = simp (lt-ltb _ _ c.if-stop-at.false, ne_eqb _ _ c.if-text-last-eq-CR.false)
+returns c = elim c.else-at-stop.branch [
+  | else-at-stop-via-then-at-stop+else-text-stop-eq-CR w ↦ simp (ne_eqb _ _ w.if-text-stop-eq-CR.false, and-false)
+  | else-at-stop-via-else-at-stop w ↦ simp (le-ltb _ _ w.if-at-stop.false)
+]
