@@ -55,15 +55,14 @@ pub extern "C" fn coinhamper_estimate_candidates(
     ensures value { result ≡ (estimated_of (estimate_input tables.now next_file_number over_budget_levels.now candidates.now numbers.now) (length estimates.old)).refusal }
     ensures estimates_after { estimates.new ≡ estimates_out (estimate_input tables.now next_file_number over_budget_levels.now candidates.now numbers.now) estimates.old }
 {
-    let e = estimates::estimate_candidates(
+    refusals::code(estimates::estimate_candidates(
         tables,
         next_file_number,
         over_budget_levels,
         candidates,
         numbers,
         estimates,
-    );
-    e.refusal
+    ))
 }
 
 // Answers a number: the score of an estimate under a vector.

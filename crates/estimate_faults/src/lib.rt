@@ -1,37 +1,45 @@
-// What `estimate_candidates` refuses beside 11, as the number of the refusal; 0 where nothing is wrong. Nothing is refused here: the call gives the number.
+// What `estimate_candidates` refuses beside 11. The call gives the refusal on.
 #![tactic(auto)]
 
 ghost use Rattle.std.specs.Prelude.{◌≡◌};
+ghost use Rattle.refusals.specs.Codes.{code};
 ghost use Rattle.refusals.specs.Refusals.{first_fault};
 ghost use Rattle.estimate_faults.specs.Faults.{too_many_inputs, broken_inputs, words_checks, values_checks};
 
+use refusals::Refusal;
+
 // 4, 5: whole records, few and sound; there are so many numbers.
-pub fn words_fault(tables: &[u64], over: &[u64], candidates: &[u64], numbers: u64) -> u64
-    ensures { result ≡ first_fault (words_checks tables.now over.now candidates.now numbers) }
+pub fn words_fault(
+    tables: &[u64],
+    over: &[u64],
+    candidates: &[u64],
+    numbers: u64,
+) -> Result<(), Refusal>
+    ensures { code result ≡ first_fault (words_checks tables.now over.now candidates.now numbers) }
 {
     if too_many(tables, over, candidates) {
-        return refusals::TOO_MANY;
+        return Err(Refusal::TooMany);
     }
     if broken(tables, over, candidates, numbers) {
-        return refusals::BAD_RECORD;
+        return Err(Refusal::BadRecord);
     }
-    refusals::NONE
+    Ok(())
 }
 
 // 6, 2, 9: the room is the length of the output buffer.
-pub fn values_fault(next: u64, over: &[u64], candidates: &[u64], room: usize) -> u64
-    ensures { result ≡ first_fault (values_checks next over.now candidates.now room) }
+pub fn values_fault(next: u64, over: &[u64], candidates: &[u64], room: usize) -> Result<(), Refusal>
+    ensures { code result ≡ first_fault (values_checks next over.now candidates.now room) }
 {
     if faults::tables::levels_out(over) {
-        return refusals::BAD_LEVEL;
+        return Err(Refusal::BadLevel);
     }
     if counts::is_large(next) {
-        return refusals::TOO_LARGE;
+        return Err(Refusal::TooLarge);
     }
     if room / 9 < candidate_records::candidate_count(candidates) {
-        return refusals::NO_ROOM;
+        return Err(Refusal::NoRoom);
     }
-    refusals::NONE
+    Ok(())
 }
 
 fn too_many(tables: &[u64], over: &[u64], candidates: &[u64]) -> bool

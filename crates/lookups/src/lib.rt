@@ -1,10 +1,2 @@
-// What a number is looked up as. The laws of the search by halves are in specs/; the search itself is the estimates' own.
+// Theorems only, in specs/: what a number is looked up as, and the laws of the search by halves. The search itself is the estimates' own.
 #![tactic(auto)]
-
-use records::tables::Table;
-
-#[derive(Clone, Copy)]
-pub enum Lookup {
-    None,
-    One(Table),
-}

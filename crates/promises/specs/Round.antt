@@ -14,9 +14,8 @@ use Rattle.state.specs.declared.Observed.{Observed}
 use Rattle.candidates.specs.declared.Generated.{Generated}
 use Rattle.candidates.specs.Generate.{GenerateInput, made_of, candidate_words, number_words, generated_of}
 use Rattle.candidates.specs.ReadBack.{offer_in}
-use Rattle.estimates.specs.declared.Estimated.{Estimated}
 use Rattle.estimate_faults.specs.Faults.{EstimateInput}
-use Rattle.estimates.specs.Estimate.Call.{estimate_words, estimated_of}
+use Rattle.estimates.specs.Estimate.Call.{Estimated, estimate_words, estimated_of}
 use Rattle.choice.specs.declared.Picked.{Picked}
 use Rattle.choice.specs.Choice.{no_focus, answer_of}
 use Rattle.choice.specs.Choice.Call.{picked_of}

@@ -6,7 +6,6 @@ ghost use Rattle.std.specs.Prelude.{◌≤◌};
 use arith::floats;
 use candidate_records::CandidateEstimate;
 use choice::Picked;
-use estimates::Estimated;
 use kinds::winner::Winner;
 use rows_state::states;
 use rows_state::states::float;
@@ -15,24 +14,25 @@ use rows_words::words::{SHORT, WORDS, word};
 
 // ---- estimates
 
-// The estimates go to the words from 3 up to an end.
+// The estimates go to the words from 3 up to an end. Told are the refusal, 0 for none, and how many estimates there are.
 fn estimated(
     args: &[u64; WORDS],
     next: usize,
     fourth: usize,
     out: &mut [u64],
     end: usize,
-) -> Estimated
+) -> [u64; 2]
     requires { next ≤ 262143 }
 {
-    estimates::estimate_candidates(
+    let answer = estimates::estimate_candidates(
         words::part(args, 0),
         word(args, next),
         words::part(args, next + 1),
         words::part(args, fourth),
         words::part(args, words::after(args, fourth, 1)),
         words::room(out, 3, end),
-    )
+    );
+    [estimates::code(answer), answer.unwrap_or(0) as u64]
 }
 
 pub fn put_estimates(args: &[u64; WORDS], out: &mut [u64; WORDS]) {
@@ -40,8 +40,8 @@ pub fn put_estimates(args: &[u64; WORDS], out: &mut [u64; WORDS]) {
     let fourth = words::after(args, next + 1, 1);
     let last = words::after(args, words::after(args, fourth, 1), 1);
     let end = words::put_list(out, 2, words::part(args, last));
-    let e = estimated(args, next, fourth, out, end);
-    words::put_all(out, 0, &[e.refusal, e.estimates as u64]);
+    let told = estimated(args, next, fourth, out, end);
+    words::put_all(out, 0, &told);
 }
 
 // ---- choice

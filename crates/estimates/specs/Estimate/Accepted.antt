@@ -11,10 +11,9 @@ use Rattle.lists.specs.Writes.{sets_front}
 use Rattle.candidate_records.specs.declared.Candidate.{Candidate}
 use Rattle.candidate_records.specs.Candidates.{candidates_of, candidate_at, no_candidate}
 use Rattle.candidate_faults.specs.Candidates.{too_many_candidates, too_many_numbers, numbers_out, broken_candidates}
-use Rattle.estimates.specs.declared.Estimated.{Estimated}
 use Rattle.estimates.specs.Estimate.{estimate_of, nine_words}
 use Rattle.estimate_faults.specs.Faults.{EstimateInput, estimate_checks, estimate_fault}
-use Rattle.estimates.specs.Estimate.Call.{estimate_words, estimated_of, estimates_out}
+use Rattle.estimates.specs.Estimate.Call.{Estimated, estimate_words, estimated_of, estimates_out}
 use Rattle.lists.specs.Flat.{flat_length}
 use Rattle.refusals.specs.Refusals.{none, too_many, bad_record, duplicate_number, too_large, no_room}
 use Rattle.refusals.specs.Checks.{check_for, clear_for}

@@ -8,7 +8,6 @@ use Rattle.records.specs.Tables.{tables_of, entries_of}
 use Rattle.candidate_records.specs.declared.Candidate.{Candidate}
 use Rattle.candidate_records.specs.Candidates.{candidates_of}
 use Rattle.estimate_faults.specs.Faults.{EstimateInput, estimate_fault}
-use Rattle.estimates.specs.declared.Estimated.{Estimated}
 use Rattle.estimates.specs.Estimate.{estimate_of, nine_words}
 
 -- one estimate for each candidate, in order
@@ -17,6 +16,11 @@ estimate_words_of ts next es ns cs = flat_map (λ c. nine_words (estimate_of ts 
 
 abbrev pub estimate_words : EstimateInput → List ℕ
 estimate_words q = estimate_words_of (tables_of q.tables) q.next (entries_of q.over) q.numbers (candidates_of q.candidates)
+
+-- the refusal, 0 for none, and how many estimates there are
+pub record Estimated : Type 0 where
+  pub refusal : ℕ
+  pub estimates : ℕ
 
 unfoldable pub estimated_of : EstimateInput → ℕ → Estimated
 estimated_of q room =
