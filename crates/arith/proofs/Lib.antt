@@ -1,5 +1,5 @@
 -- Laws that only the proofs of the code need.
-pub mod Digits
-pub mod Aligned
+pub mod Absolute
+pub mod SquareRoot
 pub mod Normal
 pub mod Decided

@@ -7,27 +7,22 @@ ghost use Rattle.arith.specs.Floats.{minimum_of, maximum_of, absolute_of, clamp_
 pub fn of_bits(bits: u64) -> f64
     ensures { result ≡ from_bits binary64 bits }
 {
-    let low = bits % 0x8000_0000_0000_0000;
-    if 0x7ff0_0000_0000_0000 < low {
-        return 0.0 / 0.0;
-    }
-    f64::from_bits(bits)
+    std::num::f64_from_bits_with_nan(bits)
 }
 
 // A NaN is written as the one pattern, since the machine's own may be any.
 pub fn to_bits(x: f64) -> u64
     ensures { result ≡ to_bits binary64 x }
 {
-    if x != x {
-        return 0x7ff8_0000_0000_0000;
-    }
-    f64::to_bits(x)
+    std::num::f64_to_bits_with_nan(x)
 }
 
+// The left one of two that are equal: the library's `min` promises either, and zeros of unlike sign are told apart.
+#[tactic(auto, unfolding(crate::specs::Floats::minimum_of))]
 pub fn minimum(a: f64, b: f64) -> f64
     ensures { result ≡ minimum_of a b }
 {
-    if a != a {
+    if a.is_nan() {
         return b;
     }
     if b < a {
@@ -36,10 +31,11 @@ pub fn minimum(a: f64, b: f64) -> f64
     a
 }
 
+#[tactic(auto, unfolding(crate::specs::Floats::maximum_of))]
 pub fn maximum(a: f64, b: f64) -> f64
     ensures { result ≡ maximum_of a b }
 {
-    if a != a {
+    if a.is_nan() {
         return b;
     }
     if a < b {
@@ -48,27 +44,16 @@ pub fn maximum(a: f64, b: f64) -> f64
     a
 }
 
-// -0.0 is not below 0.0, so zeros have a case of their own.
+#[tactic(auto, using(crate::proofs::Absolute::without_sign))]
 pub fn absolute(x: f64) -> f64
     ensures { result ≡ absolute_of x }
 {
-    if x < 0.0 {
-        return -x;
-    }
-    if x == 0.0 {
-        return 0.0;
-    }
-    x
+    x.abs()
 }
 
+#[tactic(auto, unfolding(crate::specs::Floats::clamp_of))]
 pub fn clamp(x: f64) -> f64
     ensures { result ≡ clamp_of x }
 {
-    if x < 0.0 {
-        return 0.0;
-    }
-    if 1.0 < x {
-        return 1.0;
-    }
-    x
+    x.clamp(0.0, 1.0)
 }

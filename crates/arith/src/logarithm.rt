@@ -1040,6 +1040,7 @@ fn entry(i: usize) -> u64
     LOGS[i]
 }
 
+#[tactic(auto, unfolding(crate::specs::Logarithm::rem, crate::specs::Logarithm::cut))]
 fn remainder(z: u64) -> u64
     requires { z < 2 ^ 32 }
     ensures { result ≡ rem z }
@@ -1049,21 +1050,23 @@ fn remainder(z: u64) -> u64
     4 * z - (q * h + 0xff_ffff_ffff) / 0x100_0000_0000
 }
 
-// The logarithm of big / 2^53 * 2^k, in units of 2^-44.
-fn units(big: u64, k: u64) -> u64
-    requires { (2 ^ 53 ≤ big) × (big < 2 ^ 54) × (k ≤ 64) }
-    ensures { result ≡ rule big k }
-{
-    let p = big / 0x800_0000_0000;
-    let z = big % 0x800_0000_0000 / (2 * p);
-    k * 49946518145322873 / 4096 + entry((p - 1024) as usize) + remainder(z)
-}
-
 // It stands for big / 2^53 * 2^k.
 #[derive(Clone, Copy)]
 struct Normal {
     big: u64,
     k: u64,
+    ghost in_range: { (2 ^ 53 ≤ big) × (big < 2 ^ 54) × (k ≤ 64) },
+}
+
+impl Normal {
+    // Its logarithm, in units of 2^-44.
+    fn units(self) -> u64
+        ensures { result ≡ rule self.big self.k }
+    {
+        let p = self.big / 0x800_0000_0000;
+        let z = self.big % 0x800_0000_0000 / (2 * p);
+        self.k * 49946518145322873 / 4096 + entry((p - 1024) as usize) + remainder(z)
+    }
 }
 
 // One more than the age's value, with its last places cut off where it has more than 54.
@@ -1081,23 +1084,19 @@ fn normalised(age: u64) -> Normal
     let m = v + 1;
     let k = size(m) - 1;
     if k < 53 {
-        Normal {
+        return Normal {
             big: m << (53 - k),
             k,
-        }
-    } else {
-        Normal {
-            big: m >> (k - 53),
-            k,
-        }
+        };
+    }
+    Normal {
+        big: m >> (k - 53),
+        k,
     }
 }
 
 pub fn ln_1p(age: u64) -> f64
     ensures { result ≡ ln_of age }
 {
-    let s = normalised(age);
-    let big = s.big;
-    let k = s.k;
-    units(big, k) as f64 / 0x1000_0000_0000u64 as f64
+    normalised(age).units() as f64 / 0x1000_0000_0000u64 as f64
 }

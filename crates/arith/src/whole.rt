@@ -8,7 +8,7 @@ ghost use Rattle.arith.specs.Whole.{float_of};
 pub(crate) fn size(n: u64) -> u64
     ensures { result ≡ Ieee.size n }
 {
-    64 - u64::leading_zeros(n) as u64
+    64 - u64::from(n.leading_zeros())
 }
 
 // `n as f64`.
@@ -22,11 +22,5 @@ pub fn of_u64(n: u64) -> f64
 pub fn truncate(x: f64) -> u64
     ensures { result ≡ to_unsigned 64 x }
 {
-    if x > -1.0 {
-        if x < 18446744073709551616.0 {
-            return std::num::truncating_f64_to_u64(x);
-        }
-        return 0xffff_ffff_ffff_ffff;
-    }
-    0
+    std::num::saturating_f64_to_u64(x)
 }

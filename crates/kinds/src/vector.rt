@@ -34,6 +34,7 @@ impl From<PressureSource> for u64 {
 }
 
 impl PressureVector {
+    #[tactic(auto, unfolding(crate::specs::Vector::dominant_of))]
     pub fn dominant(self) -> PressureSource
         ensures { result ≡ dominant_of self }
     {
