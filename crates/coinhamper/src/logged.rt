@@ -113,6 +113,6 @@ pub extern "C" fn coinhamper_replay(text: &[u8], out: &mut [u8], written: &mut u
     ensures written_after { written.new ≡ cond (eqb result none) (replayed_of text.now (length out.old)).length written.old }
     ensures out_after { out.new ≡ replay_out text.now out.old }
 {
-    let w = replay_lines::run::replay(text, out);
-    tell(written, w.refusal, w.length)
+    let answer = replay_lines::run::replay(text, out);
+    tell(written, refusals::code(answer), answer.unwrap_or(0))
 }

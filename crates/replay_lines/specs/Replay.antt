@@ -12,7 +12,6 @@ use Rattle.governor.specs.Observe.{observed_of}
 use Rattle.pressure.specs.Pacing.{pacing_of}
 use Rattle.kinds.specs.Vector.{dominant_of}
 use Rattle.replay_fields.specs.declared.Observation.{Observation}
-use Rattle.replay_lines.specs.declared.run.Replayed.{Replayed}
 use Rattle.replay_text.specs.Lines.{LF, comma, lines_of, fields_of}
 use Rattle.numerals.specs.Numbers.{spelt}
 use Rattle.replay_fields.specs.Fields.{line_of}
@@ -46,6 +45,11 @@ replay_of bytes = cond (ltb 65536 (length bytes)) [] (replay_from (fresh_of 0) 1
 
 abbrev pub replay_fault : List ℕ → ℕ → ℕ
 replay_fault bytes room = first_fault (ltb room (length (replay_of bytes)) gives no_room ∷ [])
+
+-- 9 where the output has no room, else its length
+pub record Replayed : Type 0 where
+  pub refusal : ℕ
+  pub length : ℕ
 
 abbrev pub replayed_of : List ℕ → ℕ → Replayed
 replayed_of bytes room =

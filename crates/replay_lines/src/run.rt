@@ -1,12 +1,14 @@
 // The whole run: a governor fresh at clock 0, and a line written for each line read.
-ghost use Rattle.std.specs.Prelude.{◌≡◌, ◌≤◌, length, replicate};
+ghost use Rattle.std.specs.Prelude.{◌≡◌, ◌≤◌, length, replicate, IfOk};
 ghost use Rattle.lists.specs.Writes.{Filled};
+ghost use Rattle.refusals.specs.Codes.{code};
 ghost use Rattle.state.specs.State.{fresh_of};
 ghost use Rattle.replay_text.specs.Lines.{LF, comma, lines_of};
 ghost use Rattle.text_writers.specs.Rows.{row_of};
 ghost use Rattle.replay_lines.specs.Replay.{printed, replay_from, replayed_of, replay_out, Counts};
 
 use crate::lines::{begun, observe_line};
+use refusals::Refusal;
 use replay_fields::line_of;
 use replay_text::reader::{COMMA, LF, Lines};
 use state::Observed;
@@ -14,13 +16,6 @@ use text_writers::put_row;
 
 // The most bytes that are read; given more, nothing is printed.
 pub const MOST: usize = 65536;
-
-// What the whole run answers: 9 where the output has no room, else its length.
-#[derive(Clone, Copy)]
-pub struct Replayed {
-    pub refusal: u64,
-    pub length: usize,
-}
 
 // Room for every text that is read, and a byte more, which shows one that is too long.
 pub fn text_room() -> [u8; 65537]
@@ -63,28 +58,20 @@ fn run(text: &[u8], out: &mut [u8]) -> usize
     at
 }
 
-// The output for a text, in a lent buffer. A first run over none of it tells the length, so that a buffer too short is left alone.
-pub fn replay(text: &[u8], out: &mut [u8]) -> Replayed
-    ensures value { result ≡ replayed_of text.now (length out.old) }
+// The output for a text, in a lent buffer, and its length; 9 where it has no room. A first run over none of it tells the length, so that a buffer too short is left alone.
+pub fn replay(text: &[u8], out: &mut [u8]) -> Result<usize, Refusal>
+    ensures refusal { code result ≡ (replayed_of text.now (length out.old)).refusal }
+    ensures value { IfOk result (λ n. n ≡ (replayed_of text.now (length out.old)).length) }
     ensures out_after { out.new ≡ replay_out text.now out.old }
-    ensures counts { Counts result.length out.new }
+    ensures counts { IfOk result (λ n. Counts n out.new) }
 {
     if MOST < text.len() {
-        return Replayed {
-            refusal: refusals::NONE,
-            length: 0,
-        };
+        return Ok(0);
     }
     let length = run(text, &mut out[..0]);
     if out.len() < length {
-        return Replayed {
-            refusal: refusals::NO_ROOM,
-            length: 0,
-        };
+        return Err(Refusal::NoRoom);
     }
     run(text, out);
-    Replayed {
-        refusal: refusals::NONE,
-        length,
-    }
+    Ok(length)
 }

@@ -1,8 +1,8 @@
 // The calls of the replay's text.
 #![tactic(auto)]
 
+use refusals::Refusal;
 use replay_lines::run;
-use replay_lines::run::Replayed;
 use rows_texts as texts;
 use rows_words::words;
 use rows_words::words::{BYTES, SHORT, WORDS};
@@ -24,8 +24,12 @@ pub fn answer(call: u64, args: &[u64; WORDS], bytes: &[u8]) -> [u64; SHORT] {
     words::told(&number_words(n), &[])
 }
 
-fn put_run(out: &mut [u64; WORDS], r: Replayed, shown: &[u8]) {
-    words::put_all(out, 0, &[r.refusal, r.length as u64]);
+fn put_run(out: &mut [u64; WORDS], answer: Result<usize, Refusal>, shown: &[u8]) {
+    words::put_all(
+        out,
+        0,
+        &[refusals::code(answer), answer.unwrap_or(0) as u64],
+    );
     words::put_list(out, 2, shown);
 }
 
@@ -43,8 +47,9 @@ fn put_filled(text: &[u8], length: usize, out: &mut [u64; WORDS]) {
     let mut bytes = [0u8; BYTES];
     texts::repeat(text, &mut bytes);
     let mut room = run::output_room();
-    let r = run::replay(words::cut(&bytes, 0, length), &mut room);
-    put_run(out, r, texts::last_line(words::cut(&room, 0, r.length)));
+    let answer = run::replay(words::cut(&bytes, 0, length), &mut room);
+    let shown = words::cut(&room, 0, answer.unwrap_or(0));
+    put_run(out, answer, texts::last_line(shown));
 }
 
 pub fn put_answer(call: u64, args: &[u64; WORDS], bytes: &[u8], out: &mut [u64; WORDS]) {
