@@ -4,7 +4,7 @@
 ghost use Rattle.std.specs.Prelude.{◌≡◌};
 ghost use Rattle.std.proofs.lemmas.List.Edits.{sets};
 ghost use Rattle.columns.specs.Columns.{form_of};
-ghost use Rattle.fits_cells.specs.Cells.{stored_of, big_endian, cell};
+ghost use Rattle.fits_cells.specs.Cells.{stored_of, cell};
 
 use columns::is_float;
 use text_writers::put_bytes;
@@ -21,26 +21,11 @@ fn stored(column: usize, word: u64) -> u64
     if is_float(column) {
         return word;
     }
-    std::num::wrapping_add_u64(word, OFFSET)
-}
-
-fn big_endian(word: u64) -> [u8; CELL]
-    ensures { result ≡ big_endian 8 word }
-{
-    [
-        (word / 0x0100_0000_0000_0000 % 256) as u8,
-        (word / 0x0001_0000_0000_0000 % 256) as u8,
-        (word / 0x0000_0100_0000_0000 % 256) as u8,
-        (word / 0x0000_0001_0000_0000 % 256) as u8,
-        (word / 0x0000_0000_0100_0000 % 256) as u8,
-        (word / 0x0000_0000_0001_0000 % 256) as u8,
-        (word / 0x0000_0000_0000_0100 % 256) as u8,
-        (word % 256) as u8,
-    ]
+    word.wrapping_add(OFFSET)
 }
 
 pub fn put_cell(out: &mut [u8], at: usize, column: usize, word: u64)
     ensures { out.new ≡ sets out.old at (cell (form_of column) word) }
 {
-    put_bytes(out, at, &big_endian(stored(column, word)));
+    put_bytes(out, at, &stored(column, word).to_be_bytes());
 }

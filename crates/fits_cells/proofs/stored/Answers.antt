@@ -7,4 +7,4 @@ pub returns-then-is_float : goal.returns-then-is_float
 returns-then-is_float c = sym (stored_float _ _ (sym c.is_float.ensures ∙ c.if-is_float.true))
 
 pub returns : goal.returns
-returns c = c.wrapping_add_u64.ensures.value ∙ sym (stored_whole _ _ (sym c.is_float.ensures ∙ c.if-is_float.false))
+returns c = sym (stored_whole _ _ (sym c.is_float.ensures ∙ c.if-is_float.false))
