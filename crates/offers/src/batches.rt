@@ -4,7 +4,6 @@ ghost use Rattle.records.specs.Tables.{tables_of};
 ghost use Rattle.offers.specs.Offers.{seed_of, Holds};
 
 use crate::MAX_ADAPTIVE_BATCH;
-use counts::smaller;
 use records::tables;
 
 // Table places, the first `len` of the eight.
@@ -18,7 +17,7 @@ pub struct Batch {
 pub fn batch_of(run: &[usize], len: usize) -> Batch
     ensures { Holds result (take (min 8 len) run.now) }
 {
-    let most = smaller(smaller(MAX_ADAPTIVE_BATCH, len), run.len());
+    let most = MAX_ADAPTIVE_BATCH.min(len).min(run.len());
     let mut places = [0usize; MAX_ADAPTIVE_BATCH];
     let mut i: usize = 0;
     while i < most {

@@ -6,7 +6,6 @@ ghost use Rattle.records.specs.Tables.{tables_of};
 ghost use Rattle.ranges.specs.Ranges.{low_of, high_of};
 ghost use Rattle.offers.specs.Offers.{held_in};
 
-use counts::smaller;
 use keys::{greater, lesser, part};
 use offers::MAX_ADAPTIVE_BATCH;
 use offers::batches::Batch;
@@ -16,7 +15,7 @@ pub fn batch_low<'a>(tables: &[u64], keys: &'a [u8], b: Batch) -> &'a [u8]
     ensures { result.now ≡ low_of keys.now (tables_of tables.now) (held_in b) }
 {
     let places = b.places;
-    let len = smaller(MAX_ADAPTIVE_BATCH, b.len);
+    let len = MAX_ADAPTIVE_BATCH.min(b.len);
     low(tables, keys, &places[..len])
 }
 
@@ -24,7 +23,7 @@ pub fn batch_high<'a>(tables: &[u64], keys: &'a [u8], b: Batch) -> &'a [u8]
     ensures { result.now ≡ high_of keys.now (tables_of tables.now) (held_in b) }
 {
     let places = b.places;
-    let len = smaller(MAX_ADAPTIVE_BATCH, b.len);
+    let len = MAX_ADAPTIVE_BATCH.min(b.len);
     high(tables, keys, &places[..len])
 }
 

@@ -13,7 +13,7 @@ const AGE_BONUS_WEIGHT: f64 = 0.01;
 pub fn cause_aware_score(vector: PressureVector, est: CandidateEstimate) -> f64
     ensures { result ≡ score_of vector est }
 {
-    let root = arith::root::sqrt(counts::at_least_one(est.estimated_rewrite_bytes));
+    let root = arith::root::sqrt(est.estimated_rewrite_bytes.max(1));
     let log = arith::logarithm::ln_1p(est.age);
     let benefit = vector.l0 * est.l0_relief
         + vector.deep_debt * est.debt_relief

@@ -7,7 +7,6 @@ ghost use Rattle.lists.specs.Writes.{Filled};
 ghost use Rattle.numerals.specs.Numbers.{spelt};
 ghost use Rattle.text_writers.specs.Rows.{behind, row_of};
 
-use counts::smaller;
 
 // The most numbers in a row; those behind them are left out.
 pub const MOST: usize = 1024;
@@ -71,8 +70,8 @@ fn byte_behind(between: u8, last: u8, left: usize) -> u8
 pub fn put_row(out: &mut [u8], at: usize, numbers: &[u64], between: u8, last: u8) -> usize
     ensures { Filled out.old at (row_of between last (take 1024 numbers.now)) out.new (at + result) }
 {
-    let from = smaller(at, out.len());
-    let count = smaller(MOST, numbers.len());
+    let from = at.min(out.len());
+    let count = MOST.min(numbers.len());
     let mut n: usize = 0;
     let mut i: usize = 0;
     while i < count {

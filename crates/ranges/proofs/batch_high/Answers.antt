@@ -11,4 +11,4 @@ slice_bounds-high-end c = let z : length c.args.b.places ≡ 8 = search rules in
 
 pub returns : goal.returns
 returns c = let b = c.args.b in let z : length b.places ≡ 8 = search rules in
-    rw (take-held b _ z c.smaller-len.ensures) at c.high.ensures
+    rw (take-held b _ z c.min-len.ensures) at c.high.ensures

@@ -4,4 +4,4 @@ use Rattle.scores.proofs.cause_aware_score.Goals as goal
 
 pub returns : goal.returns
 unfolding benefit_of score_of
-returns c = rw (c.ln_1p-log.ensures, c.sqrt-root.ensures, c.at_least_one.ensures)
+returns c = rw (c.ln_1p-log.ensures, c.sqrt-root.ensures, c.max.ensures)

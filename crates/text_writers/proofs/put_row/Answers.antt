@@ -15,7 +15,7 @@ pub loop-i-preserved : goal.loop-i-preserved
 loop-i-preserved c = let l = c.loop-i in
     let a = c.args in
     let ns = take 1024 a.numbers.now in
-    let k : length ns ≡ c.smaller-count.result = length-take 1024 a.numbers.now ∙ sym c.smaller-count.ensures in
+    let k : length ns ≡ c.min-count.result = length-take 1024 a.numbers.now ∙ sym c.min-count.ensures in
     let e = row_more a.between a.last ns l.i (omega arith) in (
       omega arith,
       omega (arith, ended-few _ _ _ _ _ _ c.put_ended-n.ensures),
@@ -29,5 +29,5 @@ pub returns : goal.returns
 unfolding row_of
 returns c = let l = c.loop-i in
     let a = c.args in
-    let e : length (take 1024 a.numbers.now) ≤ l.i = omega (arith, length-take 1024 a.numbers.now, c.smaller-count.ensures) in
-    filled-clip _ _ _ _ _ l.n c.smaller-from.ensures (fill_end _ _ _ _ _ (rw (drop_of_length-le (take 1024 a.numbers.now) e) at l.invariant.2))
+    let e : length (take 1024 a.numbers.now) ≤ l.i = omega (arith, length-take 1024 a.numbers.now, c.min-count.ensures) in
+    filled-clip _ _ _ _ _ l.n c.min-from.ensures (fill_end _ _ _ _ _ (rw (drop_of_length-le (take 1024 a.numbers.now) e) at l.invariant.2))

@@ -12,6 +12,6 @@ loop-i-preserved c = let l = c.loop-i in let run = c.args.run.now in
 
 pub returns : goal.returns
 returns c = let a = c.args in let l = c.loop-i in let run = a.run.now in
-    let m : c.smaller-most.result ≡ min (min 8 a.len) (length run) = rw c.smaller.ensures at c.smaller-most.ensures in
+    let m : c.min-most.result ≡ min (min 8 a.len) (length run) = rw c.min.ensures at c.min-most.ensures in
     let e : l.i ≡ min (min 8 a.len) (length run) = omega arith in
     record { count = m ∙ take_count (min 8 a.len) run; places = rw m (rw e at l.invariant.2 ∙ take_min (min 8 a.len) run) }
