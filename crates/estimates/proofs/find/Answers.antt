@@ -1,13 +1,15 @@
 -- `estimates::find` meets its contract.
-use Rattle.std.proofs.Common.{◌≡◌, sym, ◌∙◌, ap, List, ℕ, arith, length, get_or}
+use Rattle.std.proofs.Common.{◌≡◌, rules, sym, ◌∙◌, ap, List, ℕ, arith, length, get_or}
 use Rattle.records.specs.declared.tables.Table.{Table}
 use Rattle.records.specs.Tables.{tables_of, table_at}
 use Rattle.number_order.specs.Numbers.{by_number}
 use Rattle.lookups.specs.Found.{lookup_empty, lookup-found, lookup_missing}
 use Rattle.estimates.proofs.find.Goals as goal
 
-pub returns-then-order-eq0 : goal.returns-then-order-eq0
-returns-then-order-eq0 c = sym (lookup_empty _ _ (sym (ap length c.requires) ∙ c.if-order-eq0.true))
+pub returns-then-is_empty : goal.returns-then-is_empty
+returns-then-is_empty c =
+    let none : length c.args.order.now ≡ 0 = search rules in
+    sym (lookup_empty _ _ (sym (ap length c.requires) ∙ none))
 
 -- the table that is read is the one at that place of the order
 pub returns-then-t-number : goal.returns-then-t-number
@@ -21,7 +23,7 @@ returns c =
     sym (lookup_missing _ _ _ c.first_from-at.ensures (λ f. c.if-t-number.false (ap (λ (t : Table). t.number) e ∙ f)))
 
 pub first_from-at-requires : goal.first_from-at-requires
-first_from-at-requires c = (omega (arith, c.if-order-eq0.false), c.requires)
+first_from-at-requires c = (search rules, c.requires)
 
 pub offset_bounds-order-at : goal.offset_bounds-order-at
 offset_bounds-order-at c = omega (arith, c.first_from-at.ensures.within, ap length c.requires, c.well_formed)

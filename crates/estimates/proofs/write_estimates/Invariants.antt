@@ -1,5 +1,5 @@
 -- `estimates::write_estimates` meets its contract.
-use Rattle.std.proofs.Common.{length, drop, ◌*◌, ◌-◌, ◌≤◌, ◌≡◌}
+use Rattle.std.proofs.Common.{drop, ◌*◌, ◌≡◌}
 use Rattle.estimate_faults.specs.Faults.{estimate_input}
 use Rattle.estimates.specs.Estimate.Call.{estimate_words_of, estimate_words}
 use Rattle.candidate_records.specs.Candidates.{candidates_of}
@@ -9,7 +9,4 @@ use Rattle.reliefs.specs.Reliefs.{level_bytes_of}
 use Rattle.estimates.proofs.write_estimates.Given as goal
 
 abbrev pub invariant-loop-i : goal.invariant-loop-i
-invariant-loop-i l = (l.i ≤ length (candidates_of l.candidates)) × (l.sum.bytes ≡ level_bytes_of l.sum.level (tables_of l.tables)) × Filling l.initial.estimates 0 (estimate_words (estimate_input l.tables l.next l.over l.candidates l.numbers)) l.estimates (l.i * 9) (estimate_words_of (tables_of l.tables) l.next (entries_of l.over) l.numbers (drop l.i (candidates_of l.candidates)))
-
-abbrev pub decreases-loop-i : goal.decreases-loop-i
-decreases-loop-i l = length (candidates_of l.candidates) - l.i
+invariant-loop-i l = (l.sum.bytes ≡ level_bytes_of l.sum.level (tables_of l.tables)) × Filling l.initial.estimates 0 (estimate_words (estimate_input l.tables l.next l.over l.candidates l.numbers)) l.estimates (l.i * 9) (estimate_words_of (tables_of l.tables) l.next (entries_of l.over) l.numbers (drop l.i (candidates_of l.candidates)))
