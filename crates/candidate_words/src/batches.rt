@@ -6,7 +6,6 @@ ghost use Rattle.candidate_words.specs.Candidates.{batches_of};
 ghost use Rattle.candidate_words.specs.Writing.{Fit};
 
 use crate::heads::put_candidate;
-use counts::smaller;
 use l0_words::Ends;
 use offers::MAX_ADAPTIVE_BATCH;
 use offers::batches::batch_of;
@@ -26,7 +25,7 @@ pub(crate) fn put_batches(
     requires fit { Fit at (batches_of keys.now (tables_of tables.now) level next.now run.now) }
     ensures { Written at (batches_of keys.now (tables_of tables.now) level next.now run.now) candidates.old candidates.new numbers.old numbers.new result }
 {
-    let most = smaller(MAX_ADAPTIVE_BATCH, run.len());
+    let most = MAX_ADAPTIVE_BATCH.min(run.len());
     let mut end = at;
     let mut len: usize = 0;
     while len < most {

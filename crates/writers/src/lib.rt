@@ -8,7 +8,6 @@ ghost use Rattle.lists.specs.Writes.{Filled};
 ghost use Rattle.offers.specs.Offers.{held_in};
 ghost use Rattle.writers.specs.Writers.{numbers_of, merged_in, merged_of};
 
-use counts::smaller;
 use offers::MAX_ADAPTIVE_BATCH;
 use offers::batches::Batch;
 use records::tables::number_at;
@@ -16,7 +15,7 @@ use records::tables::number_at;
 fn put_numbers(tables: &[u64], places: &[usize], out: &mut [u64], at: usize) -> usize
     ensures { Filled out.old at (numbers_of (tables_of tables.now) places.now) out.new (at + result) }
 {
-    let from = smaller(at, out.len());
+    let from = at.min(out.len());
     let mut i: usize = 0;
     while i < places.len() {
         let number = number_at(tables, places[i]);
@@ -31,7 +30,7 @@ pub fn put_held(tables: &[u64], b: Batch, out: &mut [u64], at: usize) -> usize
     ensures { Filled out.old at (numbers_of (tables_of tables.now) (held_in b)) out.new (at + result) }
 {
     let places = b.places;
-    let count = smaller(MAX_ADAPTIVE_BATCH, b.len);
+    let count = MAX_ADAPTIVE_BATCH.min(b.len);
     put_numbers(tables, &places[..count], out, at)
 }
 
@@ -49,7 +48,7 @@ pub fn put_batch(
     let lo = ranges::batch_low(tables, keys, b);
     let hi = ranges::batch_high(tables, keys, b);
     let places = b.places;
-    let len = smaller(MAX_ADAPTIVE_BATCH, b.len);
+    let len = MAX_ADAPTIVE_BATCH.min(b.len);
     put_merged(tables, keys, lo, hi, &places[..len], next, out, at)
 }
 
@@ -84,7 +83,7 @@ fn put_merged(
 ) -> usize
     ensures { Filled out.old at (merged_in keys.now (tables_of tables.now) lo.now hi.now next.now places.now) out.new (at + result) }
 {
-    let from = smaller(at, out.len());
+    let from = at.min(out.len());
     let own = put_numbers(tables, places, &mut *out, from);
     own + put_overlapping(tables, keys, lo, hi, next, out, from + own)
 }

@@ -13,4 +13,4 @@ slice_bounds-put_merged-end c = let z : length c.args.b.places ≡ 8 = search ru
 pub returns : goal.returns
 unfolding merged_of
 returns c = let b = c.args.b in let z : length b.places ≡ 8 = search rules in
-    rw (c.batch_low-lo.ensures, c.batch_high-hi.ensures, take-held b _ z c.smaller-len.ensures) at c.put_merged.ensures
+    rw (c.batch_low-lo.ensures, c.batch_high-hi.ensures, take-held b _ z c.min-len.ensures) at c.put_merged.ensures

@@ -11,4 +11,4 @@ slice_bounds-put_numbers-end c = let z : length c.args.b.places ≡ 8 = search r
 
 pub returns : goal.returns
 returns c = let b = c.args.b in let z : length b.places ≡ 8 = search rules in
-    rw (take-held b _ z c.smaller-count.ensures) at c.put_numbers.ensures
+    rw (take-held b _ z c.min-count.ensures) at c.put_numbers.ensures

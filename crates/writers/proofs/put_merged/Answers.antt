@@ -18,4 +18,4 @@ overflow_add-result c = let a = c.args in let ks = a.keys.now in let ts = tables
     omega (arith, c.put_numbers-own.ensures.ends, numbers-length (tables_of c.args.tables.now) c.args.places.now, c.put_overlapping.ensures.ends, numbers-length ts (overlapping_of ks ts a.lo.now a.hi.now a.next.now), filter-small (meets ks ts a.lo.now a.hi.now) a.next.now)
 
 pub returns : goal.returns
-returns c = filled-clip _ _ _ _ _ _ c.smaller-from.ensures (rw (← add_assoc) (filled-append _ _ _ _ _ _ _ _ c.put_numbers-own.ensures c.put_overlapping.ensures))
+returns c = filled-clip _ _ _ _ _ _ c.min-from.ensures (rw (← add_assoc) (filled-append _ _ _ _ _ _ _ _ c.put_numbers-own.ensures c.put_overlapping.ensures))

@@ -17,4 +17,4 @@ shape_of-out c = c.loop-i.invariant.1.same
 
 pub returns : goal.returns
 returns c = let a = c.args in let l = c.loop-i in
-    filled-clip _ _ _ _ _ l.i c.smaller-from.ensures (fill_end _ _ _ _ _ (rw (drop_of_length-le a.places.now c.loop-i-test.false) at l.invariant.1))
+    filled-clip _ _ _ _ _ l.i c.min-from.ensures (fill_end _ _ _ _ _ (rw (drop_of_length-le a.places.now c.loop-i-test.false) at l.invariant.1))

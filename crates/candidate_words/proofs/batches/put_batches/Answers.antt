@@ -10,7 +10,7 @@ use Rattle.records.specs.Tables.{tables_of}
 use Rattle.candidate_words.proofs.batches.put_batches.Goals as goal
 
 pub loop-len-init : goal.loop-len-init
-loop-len-init c = (omega arith, rw (sub-zero, c.smaller-most.ensures) (writing_start _ _ _ _))
+loop-len-init c = (omega arith, rw (sub-zero, c.min-most.ensures) (writing_start _ _ _ _))
 
 -- `more`: the batch that was made is the next to be written
 pub put_candidate-end-requires : goal.put_candidate-end-requires
@@ -19,7 +19,7 @@ put_candidate-end-requires c =
     let ks = a.keys.now in
     let ts = tables_of a.tables.now in
     let l = c.loop-len in
-    let more = rw (tabulate-more (batch_of ks ts a.level a.next.now a.run.now) c.smaller-most.result l.len (omega arith), batch-held ks ts a.level a.next.now a.run.now _ (l.len + 1) (omega (arith, c.smaller-most.ensures)) c.batch_of-b.ensures) at l.invariant.1 in
+    let more = rw (tabulate-more (batch_of ks ts a.level a.next.now a.run.now) c.min-most.result l.len (omega arith), batch-held ks ts a.level a.next.now a.run.now _ (l.len + 1) (omega (arith, c.min-most.ensures)) c.batch_of-b.ensures) at l.invariant.1 in
     record { level_bound = c.requires.level_bound; words_bound = fit-one _ _ _ _ _ _ _ _ c.put_batch-count.ensures (fit-left _ _ _ (fit-rest _ _ _ _ _ _ _ _ c.requires.fit more)) }
 
 pub loop-len-preserved : goal.loop-len-preserved
@@ -28,7 +28,7 @@ loop-len-preserved c =
     let ks = a.keys.now in
     let ts = tables_of a.tables.now in
     let l = c.loop-len in
-    let more = rw (tabulate-more (batch_of ks ts a.level a.next.now a.run.now) c.smaller-most.result l.len (omega arith), batch-held ks ts a.level a.next.now a.run.now _ (l.len + 1) (omega (arith, c.smaller-most.ensures)) c.batch_of-b.ensures) at l.invariant.1 in
+    let more = rw (tabulate-more (batch_of ks ts a.level a.next.now a.run.now) c.min-most.result l.len (omega arith), batch-held ks ts a.level a.next.now a.run.now _ (l.len + 1) (omega (arith, c.min-most.ensures)) c.batch_of-b.ensures) at l.invariant.1 in
     (omega arith, writing_part _ _ _ _ _ _ _ _ _ _ _ _ more (written_one _ _ _ _ _ _ _ _ c.put_batch-count.ensures _ _ _ c.put_candidate-end.ensures))
 
 pub shape_of-candidates : goal.shape_of-candidates
@@ -39,5 +39,5 @@ shape_of-numbers c = c.loop-len.invariant.1.numbers.same
 
 pub returns : goal.returns
 unfolding tabulate
-returns c = let e : c.smaller-most.result - c.loop-len.len ≡ 0 = omega arith in
+returns c = let e : c.min-most.result - c.loop-len.len ≡ 0 = omega arith in
     writing_end _ _ _ _ _ _ _ (rw e at c.loop-len.invariant.1)
