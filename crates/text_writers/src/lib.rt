@@ -7,32 +7,23 @@ ghost use Rattle.lists.specs.Writes.{Filled};
 ghost use Rattle.numerals.specs.Numbers.{spelt};
 ghost use Rattle.text_writers.specs.Rows.{behind, row_of};
 
+use buffers::{put, put_words};
 
 // The most numbers in a row; those behind them are left out.
 pub const MOST: usize = 1024;
 
-// Byte i of those from a place on. The two are added only where the sum is in the buffer.
+// Byte i of those from a place on. A sum that passes the largest number is past the buffer's end as well.
 pub fn put_byte(out: &mut [u8], at: usize, i: usize, byte: u8)
     ensures { out.new ≡ set out.old (at + i) byte }
 {
-    if out.len() <= at {
-        return;
-    }
-    if out.len() - at <= i {
-        return;
-    }
-    out[at + i] = byte;
+    put(out, at.saturating_add(i), byte);
 }
 
 // Bytes as they are.
 pub fn put_bytes(out: &mut [u8], at: usize, bytes: &[u8])
     ensures { out.new ≡ sets out.old at bytes.now }
 {
-    let mut i: usize = 0;
-    while i < bytes.len() {
-        put_byte(out, at, i, bytes[i]);
-        i += 1;
-    }
+    put_words(out, at, bytes);
 }
 
 // A number's decimal digits, at most 20.
@@ -60,10 +51,7 @@ fn put_ended(out: &mut [u8], at: usize, n: u64, byte: u8) -> usize
 fn byte_behind(between: u8, last: u8, left: usize) -> u8
     ensures { result ≡ behind between last left }
 {
-    if left == 0 {
-        return last;
-    }
-    between
+    if left == 0 { last } else { between }
 }
 
 // Numbers with a byte between each two, and another behind the last.
@@ -71,13 +59,11 @@ pub fn put_row(out: &mut [u8], at: usize, numbers: &[u64], between: u8, last: u8
     ensures { Filled out.old at (row_of between last (take 1024 numbers.now)) out.new (at + result) }
 {
     let from = at.min(out.len());
-    let count = MOST.min(numbers.len());
+    let row = &numbers[..MOST.min(numbers.len())];
     let mut n: usize = 0;
-    let mut i: usize = 0;
-    while i < count {
-        let number = numbers[i];
-        i += 1;
-        n += put_ended(out, from + n, number, byte_behind(between, last, count - i));
+    for (i, &number) in row.iter().enumerate() {
+        let byte = byte_behind(between, last, row.len() - 1 - i);
+        n += put_ended(out, from + n, number, byte);
     }
     n
 }
