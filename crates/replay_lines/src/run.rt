@@ -17,7 +17,7 @@ use text_writers::put_row;
 // The most bytes that are read; given more, nothing is printed.
 pub const MOST: usize = 65536;
 
-// Room for every text that is read, and a byte more, which shows one that is too long.
+// Room for every text that is read, and a byte more, which shows one that is too long. Each room's size is its promise, so one function over a size would be no plainer.
 pub fn text_room() -> [u8; 65537]
     ensures { (65537 ≡ length result) × (result ≡ replicate 65537 0) }
 {
@@ -48,6 +48,7 @@ fn run(text: &[u8], out: &mut [u8]) -> usize
     ensures { Filled out.old 0 (replay_from (fresh_of 0) 1 (lines_of text.now)) out.new result }
 {
     let mut o = begun();
+    // Counted beside the lines: `enumerate` gives a usize from 0, and would be no plainer.
     let mut number: u64 = 1;
     let mut at: usize = 0;
     for line in Lines::of(text) {

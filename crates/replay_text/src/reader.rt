@@ -18,7 +18,7 @@ pub struct LinePart {
     pub next: usize,
 }
 
-// The first place of a byte, if it stands in the part at all.
+// The first place of a byte, if it stands in the part at all. On its own, so that `find` has the answer in the library's word for it.
 fn place_in(part: &[u8], byte: u8) -> Option<usize>
     ensures { result ≡ position (λ b. b == byte) part.now }
 {

@@ -26,7 +26,7 @@ pub fn put_bytes(out: &mut [u8], at: usize, bytes: &[u8])
     put_words(out, at, bytes);
 }
 
-// A number's decimal digits, at most 20.
+// A number's decimal digits, at most 20. By recursion, since they come from the right and no buffer holds them first.
 pub fn put_number(out: &mut [u8], at: usize, n: u64) -> usize
     ensures { Filled out.old at (spelt n) out.new (at + result) }
 {
