@@ -56,8 +56,7 @@ pub extern "C" fn coinhamper_recent_decisions(head: &[u64], words: &[u64], out: 
     ensures value { result ≡ recent_fault (head_of head.now) (length words.now) (length out.old) }
     ensures out_after { out.new ≡ recent_out (head_of head.now) words.now out.old }
 {
-    let r = recent::recent_decisions(head_in(head), words, out);
-    r.refusal
+    refusals::code(recent::recent_decisions(head_in(head), words, out))
 }
 
 #[unsafe(no_mangle)]

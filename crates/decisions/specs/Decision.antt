@@ -13,8 +13,6 @@ use Rattle.kinds.specs.declared.tier.SelectionTier.TheVariants as Tier
 use Rattle.kinds.specs.declared.kind.CandidateKind.{CandidateKind}
 use Rattle.kinds.specs.declared.kind.CandidateKind.TheVariants.{L0, LevelBatch, TrivialMove}
 use Rattle.decisions.specs.declared.SchedulingDecision.{SchedulingDecision}
-use Rattle.decisions.specs.declared.DecisionRead.{DecisionRead}
-use Rattle.decisions.specs.declared.DecisionRead.TheVariants.{Decision, None as NoDecision}
 
 abbrev pub decision_width : ℕ
 decision_width = 14
@@ -78,10 +76,10 @@ decision_in ws =
       read_relief = (floats_at ws 11).read;
     }
 
-unfoldable pub read_of : List ℕ → DecisionRead
-read_of ws = cond (is_decision ws) (Decision (decision_in ws)) NoDecision
+unfoldable pub read_of : List ℕ → Option SchedulingDecision
+read_of ws = cond (is_decision ws) (Some (decision_in ws)) None
 
 -- 01's values of what was read: its fourteen words, or none
-abbrev pub read_words : DecisionRead → List ℕ
-read_words (Decision d) = decision_words d
-read_words NoDecision = []
+abbrev pub read_words : Option SchedulingDecision → List ℕ
+read_words (Some d) = decision_words d
+read_words None = []

@@ -25,13 +25,7 @@ pub struct SchedulingDecision {
     pub read_relief: f64,
 }
 
-// What words read back are: a decision, or none.
-#[derive(Clone, Copy)]
-pub enum DecisionRead {
-    Decision(SchedulingDecision),
-    None,
-}
-
+#[tactic(auto, unfolding(crate::specs::Decision::source_from))]
 fn source_of(n: u64) -> PressureSource
     ensures { result ≡ source_from n }
 {
@@ -43,6 +37,7 @@ fn source_of(n: u64) -> PressureSource
     }
 }
 
+#[tactic(auto, unfolding(crate::specs::Decision::tier_from))]
 pub fn tier_of(n: u64) -> SelectionTier
     ensures { result ≡ tier_from n }
 {
@@ -54,6 +49,7 @@ pub fn tier_of(n: u64) -> SelectionTier
     }
 }
 
+#[tactic(auto, unfolding(crate::specs::Decision::kind_from))]
 fn kind_of(kind: u64, level: u64, length: u64) -> Option<CandidateKind>
     requires { level ≤ 2 ^ 32 - 1 }
     ensures { result ≡ kind_from kind level length }
@@ -92,19 +88,20 @@ pub fn to_words(d: SchedulingDecision) -> [u64; DECISION_WIDTH]
     ]
 }
 
+#[tactic(auto, unfolding(crate::specs::Decision::chosen_good))]
 fn chosen_good(kind: u64, level: u64, length: u64) -> bool
     ensures { result ≡ chosen_good kind level length }
 {
-    if kind < 2 {
-        return (level == 0) & (length == 0);
+    match kind {
+        0 | 1 => (level == 0) & (length == 0),
+        2 => level <= 0xffff_ffff,
+        3 => (level <= 0xffff_ffff) & (length == 0),
+        _ => false,
     }
-    if kind == 2 {
-        return level <= 0xffff_ffff;
-    }
-    (kind == 3) & ((level <= 0xffff_ffff) & (length == 0))
 }
 
 // The chosen kind that a candidate's kind, level and batch length say; none where they say no kind.
+#[tactic(auto, unfolding(crate::specs::Decision::chosen_from))]
 pub fn chosen_kind(kind: u64, level: u64, length: u64) -> Option<CandidateKind>
     ensures { result ≡ chosen_from kind level length }
 {
@@ -114,6 +111,7 @@ pub fn chosen_kind(kind: u64, level: u64, length: u64) -> Option<CandidateKind>
     None
 }
 
+#[tactic(auto, unfolding(crate::specs::Decision::is_decision))]
 pub fn is_decision(words: &[u64]) -> bool
     ensures { result ≡ is_decision words.now }
 {
@@ -135,6 +133,7 @@ fn floats_at(words: &[u64], at: usize) -> PressureVector
     }
 }
 
+#[tactic(auto, unfolding(crate::specs::Decision::decision_in))]
 fn decision_in(words: &[u64]) -> SchedulingDecision
     requires { (length words.now ≡ decision_width) × (get_or words.now 8 0 ≤ 2 ^ 32 - 1) }
     ensures { result ≡ decision_in words.now }
@@ -154,11 +153,12 @@ fn decision_in(words: &[u64]) -> SchedulingDecision
     }
 }
 
-pub fn of_words(words: &[u64]) -> DecisionRead
+#[tactic(auto, unfolding(crate::specs::Decision::read_of))]
+pub fn of_words(words: &[u64]) -> Option<SchedulingDecision>
     ensures { result ≡ read_of words.now }
 {
     if is_decision(words) {
-        return DecisionRead::Decision(decision_in(words));
+        return Some(decision_in(words));
     }
-    DecisionRead::None
+    None
 }

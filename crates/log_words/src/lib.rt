@@ -5,7 +5,6 @@ ghost use Rattle.std.specs.Prelude.{◌≡◌, length};
 ghost use Rattle.log_words.specs.LogWords.{head_of, three_words, record_refusal, record_head, record_words, read_refusal, read_head, read_words};
 
 use decision_log::DecisionLog;
-use decisions::DecisionRead;
 
 // Not three words are no log, as a first place past all of them says to the calls below.
 pub fn head_in(head: &[u64]) -> DecisionLog
@@ -44,12 +43,16 @@ pub fn record_decision(head: &mut [u64], words: &mut [u64], decision: &[u64]) ->
     if decision_log::log_bad(g, words.len()) {
         return refusals::BAD_LOG;
     }
-    let DecisionRead::Decision(d) = decisions::of_words(decision) else {
+    let Some(d) = decisions::of_words(decision) else {
         return refusals::BAD_RECORD;
     };
-    let r = recording::record_decision(g, words, d);
-    put_head(head, r.log);
-    refusals::NONE
+    match recording::record_decision(g, words, d) {
+        Ok(log) => {
+            put_head(head, log);
+            refusals::NONE
+        }
+        Err(refusal) => u64::from(refusal),
+    }
 }
 
 // The log that a text is, a line to each decision: 10, 4, 5. Head and words are written together or not at all.

@@ -25,9 +25,8 @@ use Rattle.decisions.specs.Decision.{decision_width, decision_words, is_decision
 use Rattle.trace.specs.Trace.{decision_of}
 use Rattle.decision_log.specs.declared.DecisionLog.{DecisionLog}
 use Rattle.decision_log.specs.Log.{max_kept, log_bad, kept_words}
-use Rattle.recording.specs.declared.Recorded.{Recorded}
 use Rattle.next_log.specs.Next.{next_sequence}
-use Rattle.recording.specs.Recording.{numbered, recorded_of, recorded_words}
+use Rattle.recording.specs.Recording.{Recorded, numbered, recorded_of, recorded_words}
 use Rattle.promises.specs.Rows.{estimating}
 
 -- what goes in: the state, what is lent to generation, the next file number, the rooms of the three buffers, the log and its words

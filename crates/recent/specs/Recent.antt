@@ -5,11 +5,15 @@ use Rattle.refusals.specs.Refusals.{◌gives◌, first_fault, none, bad_log, no_
 use Rattle.decisions.specs.Decision.{decision_width}
 use Rattle.decision_log.specs.declared.DecisionLog.{DecisionLog}
 use Rattle.decision_log.specs.Log.{log_bad, kept_words}
-use Rattle.recent.specs.declared.Recent.{Recent}
 
 -- 10, 9
 unfoldable pub recent_fault : DecisionLog → ℕ → ℕ → ℕ
 recent_fault g n room = first_fault (log_bad g n gives bad_log ∷ ltb room (decision_width * g.count) gives no_room ∷ [])
+
+-- its refusal, and how many decisions were written
+pub record Recent : Type 0 where
+  pub refusal : ℕ
+  pub count : ℕ
 
 unfoldable pub recent_of : DecisionLog → ℕ → ℕ → Recent
 recent_of g n room = record { refusal = recent_fault g n room; count = cond (eqb (recent_fault g n room) none) g.count 0 }

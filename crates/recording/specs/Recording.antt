@@ -13,7 +13,6 @@ use Rattle.decisions.specs.Decision.{decision_width, decision_words}
 use Rattle.decision_log.specs.declared.DecisionLog.{DecisionLog}
 use Rattle.decision_log.specs.Log.{log_bad}
 use Rattle.next_log.specs.Next.{next_place, next_sequence, next_log}
-use Rattle.recording.specs.declared.Recorded.{Recorded}
 
 -- the caller's own number is overwritten
 abbrev pub numbered : SchedulingDecision → ℕ → SchedulingDecision
@@ -35,6 +34,11 @@ numbered d n =
 
 unfoldable pub record_fault : DecisionLog → ℕ → ℕ
 record_fault g n = first_fault (log_bad g n gives bad_log ∷ [])
+
+-- its refusal, and the log after it: as it was where it is refused
+pub record Recorded : Type 0 where
+  pub refusal : ℕ
+  pub log : DecisionLog
 
 unfoldable pub recorded_of : DecisionLog → ℕ → Recorded
 recorded_of g n = record { refusal = record_fault g n; log = cond (eqb (record_fault g n) none) (next_log g) g }

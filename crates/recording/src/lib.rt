@@ -1,19 +1,17 @@
 // Adding a decision to the log: after the newest, or over the oldest when all places are kept.
 #![tactic(auto)]
 
-ghost use Rattle.std.specs.Prelude.{◌≡◌, length};
+ghost use Rattle.std.specs.Prelude.{◌≡◌, IfOk, length};
+ghost use Rattle.refusals.specs.Codes.{code};
 ghost use Rattle.recording.specs.Recording.{numbered, record_fault, recorded_of, recorded_words};
 
 use buffers::put_words;
 use decision_log::{DecisionLog, log_bad};
 use decisions::{DECISION_WIDTH, SchedulingDecision};
 use next_log::{next_log, next_place, next_sequence};
-
-#[derive(Clone, Copy)]
-pub struct Recorded {
-    pub refusal: u64,
-    pub log: DecisionLog,
-}
+// For a crate above that tells a refusal by its number.
+pub use refusals;
+use refusals::Refusal;
 
 fn with_sequence(d: SchedulingDecision, sequence: u64) -> SchedulingDecision
     ensures { result ≡ numbered d sequence }
@@ -23,31 +21,29 @@ fn with_sequence(d: SchedulingDecision, sequence: u64) -> SchedulingDecision
     n
 }
 
-fn record_fault(log: DecisionLog, length: usize) -> u64
-    ensures { result ≡ record_fault log length }
+#[tactic(auto, unfolding(crate::specs::Recording::record_fault))]
+fn record_fault(log: DecisionLog, length: usize) -> Result<(), Refusal>
+    ensures { code result ≡ record_fault log length }
 {
     if log_bad(log, length) {
-        return refusals::BAD_LOG;
+        return Err(Refusal::BadLog);
     }
-    refusals::NONE
+    Ok(())
 }
 
-pub fn record_decision(log: DecisionLog, words: &mut [u64], d: SchedulingDecision) -> Recorded
-    ensures value { result ≡ recorded_of log (length words.old) }
+#[tactic(auto, unfolding(crate::specs::Recording::recorded_of, crate::specs::Recording::recorded_words))]
+pub fn record_decision(
+    log: DecisionLog,
+    words: &mut [u64],
+    d: SchedulingDecision,
+) -> Result<DecisionLog, Refusal>
+    ensures refusal { code result ≡ (recorded_of log (length words.old)).refusal }
+    ensures log { IfOk result (λ g. g ≡ (recorded_of log (length words.old)).log) }
     ensures words_after { words.new ≡ recorded_words log words.old d }
 {
-    let fault = record_fault(log, words.len());
-    if fault != refusals::NONE {
-        return Recorded {
-            refusal: fault,
-            log,
-        };
-    }
+    record_fault(log, words.len())?;
     let written = decisions::to_words(with_sequence(d, next_sequence(log)));
     let at = DECISION_WIDTH * next_place(log) as usize;
     put_words(words, at, &written);
-    Recorded {
-        refusal: fault,
-        log: next_log(log),
-    }
+    Ok(next_log(log))
 }

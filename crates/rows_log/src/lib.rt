@@ -2,9 +2,7 @@
 #![tactic(auto)]
 
 use decision_log::DecisionLog;
-use decisions::DecisionRead;
-use recent::Recent;
-use recording::Recorded;
+use recording::refusals;
 use rows_seeded::{SEEDED, length_at, log_at};
 use rows_words::words;
 use rows_words::words::{SHORT, WORDS, word};
@@ -14,8 +12,8 @@ fn anew(call: u64, list: &[u64]) -> [u64; SHORT] {
     let head = [1];
     let n = ((call == 50) as usize).min(1);
     match decisions::of_words(list) {
-        DecisionRead::Decision(d) => words::told(&head[0..n], &decisions::to_words(d)),
-        DecisionRead::None => [0; SHORT],
+        Some(d) => words::told(&head[0..n], &decisions::to_words(d)),
+        None => [0; SHORT],
     }
 }
 
@@ -23,17 +21,10 @@ fn log_told(log: DecisionLog) -> [u64; SHORT] {
     words::told(&[log.first, log.count, log.sequence], &[])
 }
 
-fn recorded(log: DecisionLog, words: &mut [u64], list: &[u64]) -> Recorded {
-    match decisions::of_words(list) {
-        DecisionRead::Decision(d) => recording::record_decision(log, words, d),
-        DecisionRead::None => Recorded { refusal: 0, log },
-    }
-}
-
 // ---- one decision
 
-fn record_told(r: Recorded, words: &[u64], seed: u64) -> [u64; SHORT] {
-    let told = words::told(&[r.refusal, r.log.first, r.log.count, r.log.sequence], &[]);
+fn record_told(refusal: u64, log: DecisionLog, words: &[u64], seed: u64) -> [u64; SHORT] {
+    let told = words::told(&[refusal, log.first, log.count, log.sequence], &[]);
     rows_seeded::changes(told, words, seed)
 }
 
@@ -44,16 +35,19 @@ fn record(args: &[u64; WORDS]) -> [u64; SHORT] {
     let n = length_at(args, 3);
     let mut buffer = rows_seeded::seeded(seed);
     let words = &mut buffer[0..n];
-    let r = recorded(log, words, list);
-    record_told(r, words, seed)
+    let answer = match decisions::of_words(list) {
+        Some(d) => recording::record_decision(log, words, d),
+        None => Ok(log),
+    };
+    record_told(refusals::code(answer), answer.unwrap_or(log), words, seed)
 }
 
 // ---- the kept decisions
 
-fn recent_told(r: Recent, out: &[u64], seed: u64) -> [u64; SHORT] {
+fn recent_told(refusal: u64, count: u64, out: &[u64], seed: u64) -> [u64; SHORT] {
     let changes = rows_seeded::changes([0; SHORT], out, seed);
     let digest = rows_seeded::digest(out);
-    words::told(&[r.refusal, r.count, digest, changes[4] / 2], &[])
+    words::told(&[refusal, count, digest, changes[4] / 2], &[])
 }
 
 fn recent(args: &[u64; WORDS]) -> [u64; SHORT] {
@@ -65,8 +59,8 @@ fn recent(args: &[u64; WORDS]) -> [u64; SHORT] {
     let words = &buffer[0..n];
     let mut room = rows_seeded::seeded(seed);
     let out = &mut room[0..m];
-    let r = recent::recent_decisions(log, words, out);
-    recent_told(r, out, seed)
+    let answer = recent::recent_decisions(log, words, out);
+    recent_told(refusals::code(answer), answer.unwrap_or(0), out, seed)
 }
 
 // ---- many decisions
@@ -94,11 +88,10 @@ fn made(i: u64) -> [u64; 14] {
 
 fn filled(start: DecisionLog, words: &mut [u64], n: u64) -> DecisionLog {
     let mut log = start;
-    let mut i = 0;
-    while i < n {
-        i += 1;
-        let r = recorded(log, words, &made(i));
-        log = r.log;
+    for i in 1..=n {
+        if let Some(d) = decisions::of_words(&made(i)) {
+            log = recording::record_decision(log, words, d).unwrap_or(log);
+        }
     }
     log
 }
@@ -108,7 +101,7 @@ fn digest_of_kept(log: DecisionLog, words: &[u64]) -> u64 {
     let n = words.len();
     let mut room = [0u64; SEEDED];
     let out = words::room(&mut room, 0, n);
-    recent::recent_decisions(log, words, out);
+    let _count = recent::recent_decisions(log, words, out);
     rows_seeded::digest(out)
 }
 

@@ -15,7 +15,6 @@ use Rattle.kinds.specs.declared.tier.SelectionTier.TheVariants as Tier
 use Rattle.kinds.specs.declared.kind.CandidateKind.{CandidateKind}
 use Rattle.kinds.specs.declared.kind.CandidateKind.TheVariants.{L0, LevelBatch, TrivialMove}
 use Rattle.decisions.specs.declared.SchedulingDecision.{SchedulingDecision}
-use Rattle.decisions.specs.declared.DecisionRead.TheVariants.{Decision, None as NoDecision}
 use Rattle.decisions.specs.Decision.{decision_width, decision_words, chosen_good, is_decision, source_from, tier_from, kind_from, decision_in, read_of, read_words}
 use Rattle.decisions.specs.Decision.Good.{good, kind-small}
 
@@ -64,7 +63,7 @@ pub words-good : (d : SchedulingDecision) → kind_level d.chosen ≤ 2 ^ 32 - 1
 unfolding is_decision decision_words
 words-good d h = rw ((source-back d.dominant).0, (tier-back d.tier).0, kind-good d.chosen h)
 
-pub read_back : (d : SchedulingDecision) → Held d → read_of (decision_words d) ≡ Decision d
+pub read_back : (d : SchedulingDecision) → Held d → read_of (decision_words d) ≡ Some d
 unfolding read_of decision_words decision_in
 read_back d h =
     rw (
@@ -143,7 +142,7 @@ words_back ws e =
     let k = kind-again (get_or ws 7 0) (get_or ws 8 0) (get_or ws 9 0) g.kind in
     rw (e, source-again (get_or ws 4 0) g.dominant, tier-again (get_or ws 5 0) g.tier, k.0, k.1, k.2)
 
-pub none_read : (ws : List ℕ) → is_decision ws ≡ false → read_of ws ≡ NoDecision
+pub none_read : (ws : List ℕ) → is_decision ws ≡ false → read_of ws ≡ None
 unfolding read_of
 none_read ws e = rw e
 

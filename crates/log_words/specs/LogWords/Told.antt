@@ -1,9 +1,8 @@
 -- A head's three words written, and what words say that are a decision or none.
-use Rattle.std.specs.Prelude.{◌≡◌, refl, ℕ, ◌-◌, ◌^◌, Bool, true, false, cond, not, ◌||◌, List, [], ◌∷◌, length, set, get_or, eqb}
+use Rattle.std.specs.Prelude.{◌≡◌, refl, ℕ, ◌-◌, ◌^◌, Bool, true, false, cond, not, ◌||◌, List, [], ◌∷◌, length, set, get_or, eqb, Option, Some, None}
 use Rattle.std.proofs.Common.{ap, arith, eqb-true}
 use Rattle.refusals.specs.Refusals.{none}
-use Rattle.decisions.specs.declared.DecisionRead.{DecisionRead}
-use Rattle.decisions.specs.declared.DecisionRead.TheVariants.{Decision, None as NoDecision}
+use Rattle.decisions.specs.declared.SchedulingDecision.{SchedulingDecision}
 use Rattle.decisions.specs.Decision.{is_decision, decision_in, read_of}
 use Rattle.decision_log.specs.Log.{log_bad, log_words}
 use Rattle.log_words.specs.LogWords.{is_head, head_of, record_refusal}
@@ -30,15 +29,15 @@ head_long head n e = by (is_head head) refl e
     by true p e = eqb-true _ _ p
     by false p e = absurd (past (not (eqb n log_words)) e)
 
-abbrev IsRead : List ℕ → Bool → DecisionRead → Type 0
-IsRead ws b (Decision d) = (b ≡ true) × (decision_in ws ≡ d)
-IsRead ws b NoDecision = b ≡ false
+abbrev IsRead : List ℕ → Bool → Option SchedulingDecision → Type 0
+IsRead ws b (Some d) = (b ≡ true) × (decision_in ws ≡ d)
+IsRead ws b None = b ≡ false
 
-pub is_read : (ws : List ℕ) (r : DecisionRead) → read_of ws ≡ r → IsRead ws (is_decision ws) r
+pub is_read : (ws : List ℕ) (r : Option SchedulingDecision) → read_of ws ≡ r → IsRead ws (is_decision ws) r
 unfolding read_of
 is_read ws r e = rw (← e) (by (is_decision ws))
   where
-    by : (b : Bool) → IsRead ws b (cond b (Decision (decision_in ws)) NoDecision)
+    by : (b : Bool) → IsRead ws b (cond b (Some (decision_in ws)) None)
     by true = (refl, refl)
     by false = refl
 

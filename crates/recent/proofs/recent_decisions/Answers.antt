@@ -1,5 +1,5 @@
 -- `recent::recent_decisions` meets its contract. The invariant: what is left to write is the kept decisions from the k-th on.
-use Rattle.std.proofs.Common.{eq-eqb, ne_eqb, ◌≡◌, sym, ◌∙◌, ◌+◌, ◌*◌, ◌-◌, ◌≤◌, ◌<◌, length, arith}
+use Rattle.std.proofs.Common.{eq-eqb, ◌≡◌, sym, ◌∙◌, ◌+◌, ◌*◌, ◌-◌, ◌≤◌, ◌<◌, length, arith}
 use Rattle.decision_log.specs.Log.Kept.{place-length, kept_next, kept-none}
 use Rattle.recent.specs.Recent.Sound.{recent_sound}
 use Rattle.decision_log.specs.Log.{max_kept, kept_place, place_words, kept_words}
@@ -9,22 +9,18 @@ use Rattle.lists.specs.Writes.{fill_start, fill-part, fill_end, sets_front}
 use native.Mathlib.Nat.{sub-zero}
 use Rattle.recent.proofs.recent_decisions.Goals as goal
 
-pub returns-then-refusal-ne-NONE : goal.returns-then-refusal-ne-NONE
-unfolding recent_of recent_out
-returns-then-refusal-ne-NONE c = let f = c.recent_fault-refusal.ensures in let e = ne_eqb _ _ c.if-refusal-ne-NONE.true in record { value = simp (← f, e); out_after = simp (← f, e) }
-
 pub loop-k-init : goal.loop-k-init
 loop-k-init c = (omega arith, rw sub-zero (fill_start _ _ _))
 
 pub overflow_mul-at : goal.overflow_mul-at
-overflow_mul-at c = let s = recent_sound _ _ _ (sym c.recent_fault-refusal.ensures ∙ c.if-refusal-ne-NONE.false) in omega arith
+overflow_mul-at c = let s = recent_sound _ _ _ (sym c.in_ok-recent_fault.ensures) in omega arith
 
 pub slice_bounds-put_words-end : goal.slice_bounds-put_words-end
-slice_bounds-put_words-end c = let s = recent_sound _ _ _ (sym c.recent_fault-refusal.ensures ∙ c.if-refusal-ne-NONE.false) in omega arith
+slice_bounds-put_words-end c = let s = recent_sound _ _ _ (sym c.in_ok-recent_fault.ensures) in omega arith
 
 pub loop-k-preserved : goal.loop-k-preserved
 loop-k-preserved c = let a = c.args in
-    let s = recent_sound _ _ _ (sym c.recent_fault-refusal.ensures ∙ c.if-refusal-ne-NONE.false) in
+    let s = recent_sound _ _ _ (sym c.in_ok-recent_fault.ensures) in
     let e : decision_width * c.kept_place.result + decision_width - decision_width * c.kept_place.result ≡ decision_width = omega arith in
     let h : kept_place a.log c.loop-k.k < max_kept = omega arith in
     let n = place-length a.words.now (kept_place a.log c.loop-k.k) s.0.long h in (
@@ -35,11 +31,11 @@ loop-k-preserved c = let a = c.args in
 
 pub returns : goal.returns
 unfolding recent_of recent_out
-returns c = let f = c.recent_fault-refusal.ensures in
-    let e = eq-eqb _ _ (sym f ∙ c.if-refusal-ne-NONE.false) in
-    let s = recent_sound _ _ _ (sym f ∙ c.if-refusal-ne-NONE.false) in
+returns c = let f = c.in_ok-recent_fault.ensures in
+    let e = eq-eqb _ _ (sym f) in
+    let s = recent_sound _ _ _ (sym f) in
     let w = fill_end _ _ _ _ _ (rw (kept-none _ _ _ _ c.loop-k-test.false) at c.loop-k.invariant.1) in
     let a = c.args in
     let n : length (kept_words a.log a.words.now) ≡ decision_width * a.log.count = omega (arith, w.ends) in
     let h : length (kept_words a.log a.words.now) ≤ length a.out.now = omega arith in
-    record { value = simp (f, e); out_after = simp e (w.stands ∙ rw n at (sets_front (kept_words a.log a.words.now) a.out.now h)) }
+    record { refusal = f; count = simp e; out_after = simp e (w.stands ∙ rw n at (sets_front (kept_words a.log a.words.now) a.out.now h)) }
