@@ -7,20 +7,21 @@ ghost use Rattle.log_words.specs.LogWords.{head_of, three_words, record_refusal,
 use decision_log::DecisionLog;
 
 // Not three words are no log, as a first place past all of them says to the calls below.
+#[tactic(auto, unfolding(crate::specs::LogWords::head_of))]
 pub fn head_in(head: &[u64]) -> DecisionLog
     ensures { result ≡ head_of head.now }
 {
-    if head.len() == 3 {
-        return DecisionLog {
-            first: head[0],
-            count: head[1],
-            sequence: head[2],
-        };
-    }
-    DecisionLog {
-        first: 0xffff_ffff_ffff_ffff,
-        count: 0,
-        sequence: 0,
+    match *head {
+        [first, count, sequence] => DecisionLog {
+            first,
+            count,
+            sequence,
+        },
+        _ => DecisionLog {
+            first: u64::MAX,
+            count: 0,
+            sequence: 0,
+        },
     }
 }
 
@@ -28,9 +29,7 @@ fn put_head(head: &mut [u64], g: DecisionLog)
     requires { length head.old ≡ 3 }
     ensures { head.new ≡ three_words g }
 {
-    head[0] = g.first;
-    head[1] = g.count;
-    head[2] = g.sequence;
+    head.copy_from_slice(&[g.first, g.count, g.sequence]);
 }
 
 // 10, then 5 for words that are no decision. The log gives the sequence.
