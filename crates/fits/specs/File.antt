@@ -2,9 +2,8 @@
 pub mod Laws
 pub mod Sound
 use Rattle.std.specs.Prelude.{ℕ, List, [], ◌∷◌, length, ltb}
-use Rattle.refusals.specs.declared.Written.{Written}
 use Rattle.refusals.specs.Refusals.{Check, ◌gives◌, first_fault, bad_log, no_room}
-use Rattle.refusals.specs.Written.{written_of, written_out}
+use Rattle.refusals.specs.Written.{Written, written_of, written_out}
 use Rattle.decision_log.specs.declared.DecisionLog.{DecisionLog}
 use Rattle.decision_log.specs.Log.{log_bad, kept_words}
 use Rattle.fits.specs.Rows.{fits_of}

@@ -1,8 +1,12 @@
 -- An answer of bytes in a lent buffer: with no fault at its front, and nothing after it; with a fault the buffer is as it was.
 use Rattle.std.specs.Prelude.{◌≡◌, ℕ, ◌≤◌, Bool, true, false, cond, List, ◌++◌, length, take, drop, eqb}
 use Rattle.std.proofs.Common.{sym, arith, length-append, length-take-le}
-use Rattle.refusals.specs.declared.Written.{Written}
 use Rattle.refusals.specs.Refusals.{none}
+
+-- its refusal, and how many bytes they are, 0 beside a refusal
+pub record Written : Type 0 where
+  pub refusal : ℕ
+  pub length : ℕ
 
 abbrev pub written_of : ℕ → List ℕ → Written
 written_of fault answer = record { refusal = fault; length = cond (eqb fault none) (length answer) 0 }

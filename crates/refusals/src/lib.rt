@@ -85,10 +85,3 @@ pub const BAD_LOG: u64 = 10;
 
 // A number occurs twice in a table list.
 pub const DUPLICATE_NUMBER: u64 = 11;
-
-// What a call answers whose result is bytes at the front of a lent buffer: its refusal, and how many they are, 0 beside a refusal.
-#[derive(Clone, Copy)]
-pub struct Written {
-    pub refusal: u64,
-    pub length: usize,
-}

@@ -1,15 +1,16 @@
 -- `fits::put_zeros` meets its contract.
-use Rattle.std.proofs.Common.{◌≡◌, suc, ◌+◌, ◌-◌, arith}
-use Rattle.lists.specs.Writes.{fill_start, fill_put, fill_end}
+use Rattle.std.proofs.Common.{◌≡◌, ◌∙◌, ap, ℕ, ◌+◌, ◌-◌, ◌≤◌, List, length, take, drop, arith, append_assoc, length-take, length-drop}
+use Rattle.std.proofs.Math.Seq.{drop-drop}
+use Rattle.std.proofs.lemmas.List.{length-replicate}
+use Rattle.std.proofs.lemmas.List.Edits.{sets, sets-eq}
+use borrow.Rule.Slice.PartMut.{put_mid}
 use Rattle.fits.proofs.put_zeros.Goals as goal
 
-pub loop-at-init : goal.loop-at-init
-loop-at-init c = (omega arith, fill_start _ _ _)
-
-pub loop-at-preserved : goal.loop-at-preserved
-loop-at-preserved c = let e : c.args.to - c.loop-at.at ≡ suc (c.args.to - (c.loop-at.at + 1)) = omega arith in
-    (omega arith, fill_put _ _ _ _ _ _ _ (rw e at c.loop-at.invariant.1))
+laid : (a k : ℕ) (xs ys : List ℕ) → length ys ≡ k → a + k ≤ length xs → put_mid a k xs ys ≡ sets xs a ys
+laid a k xs ys e h = let w : a + length ys ≤ length xs = omega arith in rw (sets-eq ys xs a w, append_assoc, e, drop-drop)
 
 pub returns : goal.returns
-returns c = let e : c.args.to - c.loop-at.at ≡ 0 = omega arith in
-    (fill_end _ _ _ _ _ (rw e at c.loop-at.invariant.1)).stands
+returns c = let a = c.args in
+    let n : length (take (a.to - a.from) (drop a.from a.out.now)) ≡ a.to - a.from = simp (length-take, length-drop) (omega arith) in
+    let z = rw n at (c.fill.ensures.after (λ y e. e)) in
+    laid a.from (a.to - a.from) a.out.now c.fill.new.self (rw z (length-replicate {A = ℕ} (a.to - a.from) 0)) (omega arith) ∙ ap (λ (l : List ℕ). sets a.out.now a.from l) z
