@@ -64,8 +64,8 @@ pub extern "C" fn coinhamper_fits_length(head: &[u64], words: &[u64], written: &
     ensures value { result ≡ (length_of (head_of head.now) words.now).refusal }
     ensures written_after { written.new ≡ cond (eqb result none) (length_of (head_of head.now) words.now).length written.old }
 {
-    let w = fits::fits_length(head_in(head), words);
-    tell(written, w.refusal, w.length)
+    let answer = fits::fits_length(head_in(head), words);
+    tell(written, refusals::code(answer), answer.unwrap_or(0))
 }
 
 // The log as a binary table of the FITS Standard 4.0, oldest first; 469,440 bytes are always enough.
@@ -80,8 +80,8 @@ pub extern "C" fn coinhamper_write_fits(
     ensures written_after { written.new ≡ cond (eqb result none) (fits_written (head_of head.now) words.now (length out.old)).length written.old }
     ensures out_after { out.new ≡ fits_out (head_of head.now) words.now out.old }
 {
-    let w = fits::write_fits(head_in(head), words, out);
-    tell(written, w.refusal, w.length)
+    let answer = fits::write_fits(head_in(head), words, out);
+    tell(written, refusals::code(answer), answer.unwrap_or(0))
 }
 
 // The log that a text is, a line to each decision: 10, 4, 5. Head and words are written together or not at all.
@@ -101,8 +101,8 @@ pub extern "C" fn coinhamper_refused_lines(text: &[u8], out: &mut [u8], written:
     ensures written_after { written.new ≡ cond (eqb result none) (reported_of text.now (length out.old)).length written.old }
     ensures out_after { out.new ≡ report_out text.now out.old }
 {
-    let w = log_text::refused_lines(text, out);
-    tell(written, w.refusal, w.length)
+    let answer = log_text::refused_lines(text, out);
+    tell(written, refusals::code(answer), answer.unwrap_or(0))
 }
 
 // The answers to a text of observations; 1,179,648 bytes are always enough. More than 65,536 bytes are answered by none.

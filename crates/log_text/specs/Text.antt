@@ -12,9 +12,7 @@ use Rattle.decision_log.specs.Log.{empty_log, max_kept, log_bad}
 use Rattle.replay_text.specs.Lines.{LF, comma, lines_of, fields_of}
 use Rattle.text_writers.specs.Rows.{row_of}
 use Rattle.log_fields.specs.Line.{DecisionLine, line_of}
-use Rattle.log_text.specs.declared.TextRead.{TextRead}
-use Rattle.refusals.specs.declared.Written.{Written}
-use Rattle.refusals.specs.Written.{written_of, written_out}
+use Rattle.refusals.specs.Written.{Written, written_of, written_out}
 
 -- 4,096 lines of eight numbers of 20 digits, six of 16, thirteen commas, CR and LF
 abbrev pub most : ℕ
@@ -46,6 +44,11 @@ words_of lines = flat_map (λ (l : List ℕ). (read_line l).words) lines
 -- from place 0 on; the sequence is the newest decision's, 0 for none
 abbrev pub log_of : List (List ℕ) → DecisionLog
 log_of lines = record { first = 0; count = length lines; sequence = get_or (words_of lines) (length (words_of lines) - decision_width) 0 }
+
+-- its refusal, and the log, the empty one beside a refusal
+pub record TextRead : Type 0 where
+  pub refusal : ℕ
+  pub log : DecisionLog
 
 unfoldable pub read_of : List ℕ → ℕ → TextRead
 read_of text n = record { refusal = read_fault text n; log = cond (eqb (read_fault text n) none) (log_of (lines_of text)) empty_log }

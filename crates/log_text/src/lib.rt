@@ -1,9 +1,10 @@
 // The log's text: the log that it is, and a report of the lines that are refused.
 #![tactic(auto)]
 
-ghost use Rattle.std.specs.Prelude.{◌≡◌, cond, not, [], ◌+◌, ◌-◌, ◌*◌, ◌≤◌, length, take, get_or, replicate};
+ghost use Rattle.std.specs.Prelude.{◌≡◌, IfOk, cond, not, [], ◌+◌, ◌-◌, ◌*◌, ◌≤◌, length, take, get_or, replicate};
 ghost use Rattle.lists.specs.Writes.{Filled};
 ghost use Rattle.refusals.specs.Refusals.{bad_record};
+ghost use Rattle.refusals.specs.Codes.{code};
 ghost use Rattle.refusals.specs.Written.{Counts};
 ghost use Rattle.replay_text.specs.Lines.{lines_of};
 ghost use Rattle.log_text.specs.Text.{too_long, read_fault, words_of, read_of, read_out, refused_line, bad_from, report_of, reported_of, report_out};
@@ -12,19 +13,12 @@ use buffers::put_words;
 use decision_log::{DecisionLog, LOG_WORDS, MAX_DECISIONS_KEPT, log_bad};
 use decisions::DECISION_WIDTH;
 use log_fields::line_of;
-use refusals::Written;
+use refusals::Refusal;
 use replay_text::reader::{COMMA, LF, Lines};
 use text_writers::put_row;
 
 // The most bytes that 4,096 good lines have.
 pub const MOST: usize = 1110016;
-
-// What reading a text answers: the log, or the empty one beside a refusal.
-#[derive(Clone, Copy)]
-pub struct TextRead {
-    pub refusal: u64,
-    pub log: DecisionLog,
-}
 
 // Room for every text that is read, and a byte more, which shows one that is too long.
 pub fn text_room() -> [u8; 1110017]
@@ -89,20 +83,20 @@ fn too_long(text: &[u8]) -> bool
     MAX_DECISIONS_KEPT < put_lines(text, &mut spare)
 }
 
-fn read_fault(text: &[u8], length: usize) -> u64
-    ensures { result ≡ read_fault text.now length }
+fn read_fault(text: &[u8], length: usize) -> Result<(), Refusal>
+    ensures { code result ≡ read_fault text.now length }
 {
     if log_bad(decision_log::empty(), length) {
-        return refusals::BAD_LOG;
+        return Err(Refusal::BadLog);
     }
     if too_long(text) {
-        return refusals::TOO_MANY;
+        return Err(Refusal::TooMany);
     }
     let mut spare = [0u8; 1];
     if put_bad(text, &mut spare) != 0 {
-        return refusals::BAD_RECORD;
+        return Err(Refusal::BadRecord);
     }
-    refusals::NONE
+    Ok(())
 }
 
 // The sequence of the newest of so many decisions, 0 for none.
@@ -117,27 +111,20 @@ fn newest_sequence(words: &[u64], count: u64) -> u64
 }
 
 // The log that a text is, from place 0 on.
-pub fn read_log(text: &[u8], words: &mut [u64]) -> TextRead
-    ensures value { result ≡ read_of text.now (length words.old) }
+#[tactic(auto, unfolding(crate::specs::Text::read_of, crate::specs::Text::read_out))]
+pub fn read_log(text: &[u8], words: &mut [u64]) -> Result<DecisionLog, Refusal>
+    ensures refusal { code result ≡ (read_of text.now (length words.old)).refusal }
+    ensures log { IfOk result (λ g. g ≡ (read_of text.now (length words.old)).log) }
     ensures words_after { words.new ≡ read_out text.now words.old }
 {
-    let refusal = read_fault(text, words.len());
-    if refusal != refusals::NONE {
-        return TextRead {
-            refusal,
-            log: decision_log::empty(),
-        };
-    }
+    read_fault(text, words.len())?;
     let count = put_lines(text, words);
     let sequence = newest_sequence(words, count);
-    TextRead {
-        refusal,
-        log: DecisionLog {
-            first: 0,
-            count,
-            sequence,
-        },
-    }
+    Ok(DecisionLog {
+        first: 0,
+        count,
+        sequence,
+    })
 }
 
 // Writes the whole report as far as the buffer goes, and answers its length.
@@ -150,22 +137,17 @@ fn put_report(text: &[u8], out: &mut [u8]) -> usize
     put_bad(text, out)
 }
 
-// The refused lines of a text, each by its number and its refusal. A first run over none of the buffer tells the length, so that one too short is left alone.
-pub fn refused_lines(text: &[u8], out: &mut [u8]) -> Written
-    ensures value { result ≡ reported_of text.now (length out.old) }
+// The refused lines of a text, each by its number and its refusal: how many bytes they are. A first run over none of the buffer tells the length, so that one too short is left alone.
+pub fn refused_lines(text: &[u8], out: &mut [u8]) -> Result<usize, Refusal>
+    ensures refusal { code result ≡ (reported_of text.now (length out.old)).refusal }
+    ensures value { IfOk result (λ n. n ≡ (reported_of text.now (length out.old)).length) }
     ensures out_after { out.new ≡ report_out text.now out.old }
-    ensures counts { Counts result.length out.new }
+    ensures counts { IfOk result (λ n. Counts n out.new) }
 {
     let length = put_report(text, &mut out[..0]);
     if out.len() < length {
-        return Written {
-            refusal: refusals::NO_ROOM,
-            length: 0,
-        };
+        return Err(Refusal::NoRoom);
     }
     put_report(text, out);
-    Written {
-        refusal: refusals::NONE,
-        length,
-    }
+    Ok(length)
 }

@@ -20,8 +20,9 @@ fn read_full(input: &mut impl Read, buf: &mut [u8]) -> Result<usize>
     Ok(done)
 }
 
+// The refused lines, and nothing where the buffer is shorter than they are.
 fn report(stderr: &impl Print, text: &[u8], out: &mut [u8]) -> Result<()> {
-    let length = log_text::refused_lines(text, out).length;
+    let length = log_text::refused_lines(text, out).unwrap_or(0);
     stderr.write_all(&out[..length])
 }
 
@@ -32,11 +33,10 @@ fn answer(
     words: &mut [u64],
     out: &mut [u8],
 ) -> Result<()> {
-    let read = log_text::read_log(text, words);
-    if read.refusal != refusals::NONE {
+    let Ok(log) = log_text::read_log(text, words) else {
         return report(stderr, text, out);
-    }
-    let length = fits::write_fits(read.log, words, out).length;
+    };
+    let length = fits::write_fits(log, words, out).unwrap_or(0);
     stdout.write_all(&out[..length])
 }
 

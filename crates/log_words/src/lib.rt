@@ -63,10 +63,11 @@ pub fn read_log(text: &[u8], head: &mut [u64], words: &mut [u64]) -> u64
     if head.len() != 3 {
         return refusals::BAD_LOG;
     }
-    let t = log_text::read_log(text, words);
-    if t.refusal != refusals::NONE {
-        return t.refusal;
+    match log_text::read_log(text, words) {
+        Ok(log) => {
+            put_head(head, log);
+            refusals::NONE
+        }
+        Err(refusal) => u64::from(refusal),
     }
-    put_head(head, t.log);
-    refusals::NONE
 }

@@ -2,8 +2,7 @@
 #![tactic(auto)]
 
 use decision_log::DecisionLog;
-use log_text::TextRead;
-use refusals::Written;
+use refusals::Refusal;
 use rows_seeded::{SEEDED, length_at, log_at};
 use rows_texts as texts;
 use rows_words::words;
@@ -15,13 +14,18 @@ const ROOM: usize = 469441;
 // The words that are told of a log that was read: two decisions.
 const SHOWN: usize = 28;
 
+// How many bytes were written, 0 beside a refusal.
+fn length_in(answer: Result<usize, Refusal>) -> usize {
+    answer.unwrap_or(0)
+}
+
 // ---- tables
 
 pub fn answer(args: &[u64; WORDS]) -> [u64; SHORT] {
     let buffer = rows_seeded::seeded(word(args, 4));
     let n = length_at(args, 3);
-    let r = fits::fits_length(log_at(args), &buffer[0..n]);
-    words::told(&[r.refusal, r.length as u64], &[])
+    let answer = fits::fits_length(log_at(args), &buffer[0..n]);
+    words::told(&[refusals::code(answer), length_in(answer) as u64], &[])
 }
 
 // The four numbers from a place on: room, fill, and from where to where bytes are told.
@@ -41,11 +45,12 @@ fn laid(seed: u64, at: u64, list: &[u64]) -> [u64; SEEDED] {
     words
 }
 
-fn put_table(r: Written, out: &[u8], asked: [u64; 4], told: &mut [u64; WORDS]) {
+fn put_table(answer: Result<usize, Refusal>, out: &[u8], asked: [u64; 4], told: &mut [u64; WORDS]) {
+    let length = length_in(answer) as u64;
     words::put_all(
         told,
         0,
-        &[r.refusal, r.length as u64, rows_seeded::digest(out)],
+        &[refusals::code(answer), length, rows_seeded::digest(out)],
     );
     words::put_list(
         told,
@@ -62,8 +67,7 @@ fn put_written(log: DecisionLog, words: &[u64], asked: [u64; 4], told: &mut [u64
     let n = (asked[0] as usize).min(ROOM);
     let mut room = filled((asked[1] % 256) as u8);
     let out = &mut room[0..n];
-    let r = fits::write_fits(log, words, out);
-    put_table(r, out, asked, told);
+    put_table(fits::write_fits(log, words, out), out, asked, told);
 }
 
 fn put_fits(args: &[u64; WORDS], told: &mut [u64; WORDS]) {
@@ -75,10 +79,15 @@ fn put_fits(args: &[u64; WORDS], told: &mut [u64; WORDS]) {
 
 // ---- the log's text
 
-fn put_read(r: TextRead, words: &[u64], told: &mut [u64; WORDS]) {
+fn log_in(answer: Result<DecisionLog, Refusal>) -> DecisionLog {
+    answer.unwrap_or(decision_log::empty())
+}
+
+fn put_read(answer: Result<DecisionLog, Refusal>, words: &[u64], told: &mut [u64; WORDS]) {
     let n = words.len().min(SHOWN);
-    let log = r.log;
-    words::put_all(told, 0, &[r.refusal, log.first, log.count, log.sequence]);
+    let log = log_in(answer);
+    let refusal = refusals::code(answer);
+    words::put_all(told, 0, &[refusal, log.first, log.count, log.sequence]);
     let at = words::put_list(told, 4, &words[0..n]);
     words::put(told, at, rows_seeded::digest(words));
 }
@@ -90,8 +99,8 @@ fn put_log(text: &[u8], length: u64, seed: u64, told: &mut [u64; WORDS]) {
     put_read(log_text::read_log(text, words), words, told);
 }
 
-fn put_report(r: Written, shown: &[u8], told: &mut [u64; WORDS]) {
-    words::put_all(told, 0, &[r.refusal, r.length as u64]);
+fn put_report(answer: Result<usize, Refusal>, shown: &[u8], told: &mut [u64; WORDS]) {
+    words::put_all(told, 0, &[refusals::code(answer), length_in(answer) as u64]);
     words::put_list(told, 2, shown);
 }
 
@@ -114,10 +123,10 @@ fn report_room() -> [u8; 28672] {
 fn read_filled(text: &[u8]) -> [u64; 4] {
     let mut buffer = rows_seeded::seeded(1);
     let words = &mut buffer[0..57344];
-    let r = log_text::read_log(text, words);
-    let log = r.log;
+    let answer = log_text::read_log(text, words);
+    let log = log_in(answer);
     [
-        r.refusal,
+        refusals::code(answer),
         log.count,
         log.sequence,
         rows_seeded::digest(words),
@@ -127,9 +136,9 @@ fn read_filled(text: &[u8]) -> [u64; 4] {
 // The report's length and its last line, behind four numbers.
 fn put_last(text: &[u8], told: &mut [u64; WORDS]) {
     let mut room = report_room();
-    let report = log_text::refused_lines(text, &mut room);
-    words::put(told, 4, report.length as u64);
-    let shown = words::cut(&room, 0, report.length);
+    let length = length_in(log_text::refused_lines(text, &mut room));
+    words::put(told, 4, length as u64);
+    let shown = words::cut(&room, 0, length);
     words::put_list(told, 5, texts::last_line(shown));
 }
 
