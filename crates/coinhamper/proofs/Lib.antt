@@ -1,2 +1,3 @@
--- What the exports' contracts decide.
+-- What the exports' contracts decide, and what C is told of an answer.
 pub mod Decided
+pub mod Counted

@@ -1,10 +1,8 @@
 -- `coinhamper::logged::coinhamper_refused_lines` meets its contract.
-use Rattle.std.proofs.Common.{ap}
-use Rattle.refusals.specs.declared.Written.{Written}
-use Rattle.answer_words.specs.AnswerWords.Told.{told-count}
+use Rattle.coinhamper.proofs.Counted.{told}
 use Rattle.coinhamper.proofs.logged.coinhamper_refused_lines.Goals as goal
 
 pub returns : goal.returns
-returns c = let w = c.refused_lines-w.ensures.value in
-    let t = told-count _ _ _ _ _ _ _ (ap (λ (w : Written). w.refusal) w) (ap (λ (w : Written). w.length) w) (c.tell.ensures.value, c.tell.ensures.count_after) in
-    record { value = t.0; written_after = t.1; out_after = c.refused_lines-w.ensures.out_after }
+returns c = let a = c.refused_lines-answer.ensures in
+    let t = told c.refused_lines-answer.result _ c.args.written.now _ _ _ _ a.refusal a.value c.code.ensures c.unwrap_or.ensures (c.tell.ensures.value, c.tell.ensures.count_after) in
+    record { value = t.0; written_after = t.1; out_after = a.out_after }
