@@ -1,18 +1,17 @@
 -- Answers as words, and the number that a call with a lent buffer for them gives. Definitions only.
 pub mod Told
 pub mod Reading
-use Rattle.std.specs.Prelude.{ℕ, cond, List, [], ◌∷◌, get_or, replicate, leb, ltb, eqb, Float}
+use Rattle.std.specs.Prelude.{ℕ, cond, List, [], ◌∷◌, get_or, replicate, leb, ltb, eqb, Float, Option}
 use Rattle.std.specs.Float.{binary64}
 use Rattle.std.specs.Float.Ieee.{of_bits, to_bits}
 use Rattle.refusals.specs.Refusals.{none, no_room}
-use Rattle.kinds.specs.declared.winner.Winner.{Winner}
 use Rattle.kinds.specs.Numbers.{mode_number, tier_number, winner_numbers}
 use Rattle.state.specs.declared.GovernorState.{GovernorState}
 use Rattle.snapshot.specs.declared.SnapshotAnswer.{SnapshotAnswer}
 use Rattle.snapshot.specs.declared.SnapshotAnswer.TheVariants.{Stats, Refused}
 use Rattle.pressure.specs.Pacing.{pacing_of}
 use Rattle.snapshot.specs.Snapshot.{figures}
-use Rattle.choice.specs.declared.Picked.{Picked}
+use Rattle.choice.specs.PickAnswer.{PickAnswer}
 use Rattle.state_words.specs.StateWords.{no_such_case, mode_from, focus_flag, focus_level, is_state, state_in}
 
 -- the call's own refusal, then 9 where so many words have no room
@@ -51,14 +50,14 @@ unfoldable pub figures_or : SnapshotAnswer → List ℕ
 figures_or (Stats t) = figures t
 figures_or (Refused n) = replicate {A = ℕ} 14 0
 
-abbrev pub winner_flag : Winner → ℕ
+abbrev pub winner_flag : Option ℕ → ℕ
 winner_flag w = get_or (winner_numbers w) 0 0
 
-abbrev pub winner_place : Winner → ℕ
+abbrev pub winner_place : Option ℕ → ℕ
 winner_place w = get_or (winner_numbers w) 1 0
 
 -- winner, focus, tier
-unfoldable pub picked_words : Picked → List ℕ
+unfoldable pub picked_words : PickAnswer → List ℕ
 picked_words p =
     winner_flag p.winner ∷ winner_place p.winner
     ∷ focus_flag p.focus.current_focus ∷ focus_level p.focus.current_focus ∷ p.focus.streak

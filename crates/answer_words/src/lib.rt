@@ -2,20 +2,21 @@
 #![tactic(auto)]
 
 ghost use Rattle.std.specs.Prelude.{◌≡◌, cond, length, eqb};
+ghost use Rattle.kinds.specs.Numbers.{winner_numbers};
 ghost use Rattle.refusals.specs.Refusals.{none};
 ghost use Rattle.refusals.specs.Written.{written_out};
 ghost use Rattle.snapshot.specs.Snapshot.{figures, snapshot_refusal};
 ghost use Rattle.std.specs.Float.{binary64};
 ghost use Rattle.std.specs.Float.Ieee.{of_bits, to_bits};
+ghost use Rattle.choice.specs.Choice.{answered};
 ghost use Rattle.state_words.specs.StateWords.{state_in, gated};
-ghost use Rattle.answer_words.specs.AnswerWords.{answer_fault, reading_words, reading_in, mode_or, pacing_refusal, pacing_after, figures_or, winner_flag, winner_place, picked_words};
+ghost use Rattle.answer_words.specs.AnswerWords.{answer_fault, reading_words, reading_in, mode_or, pacing_refusal, pacing_after, figures_or, picked_words};
 
 use arith::floats;
 use choice::Picked;
-use kinds::winner::Winner;
 use pressure::pacing;
 use snapshot::{GovernorStats, SnapshotAnswer};
-use state_words::{focus_words, is_state};
+use state_words::{focus_words, is_state, option_words};
 
 // What the call refuses by comes before a buffer that is too short.
 pub fn answer(out: &mut [u64], refusal: u64, words: &[u64]) -> u64
@@ -142,40 +143,24 @@ pub fn snapshot_refusal(a: SnapshotAnswer) -> u64
     }
 }
 
-#[derive(Clone, Copy)]
-struct WinnerWords {
-    flag: u64,
-    place: u64,
-}
-
-fn winner_words(w: Winner) -> WinnerWords
-    ensures { (result.flag ≡ winner_flag w) × (result.place ≡ winner_place w) }
+fn winner_words(winner: Option<usize>) -> [u64; 2]
+    ensures { result ≡ winner_numbers winner }
 {
-    match w {
-        Winner::None => WinnerWords { flag: 0, place: 0 },
-        Winner::At(place) => WinnerWords {
-            flag: 1,
-            place: place as u64,
-        },
-    }
+    option_words(winner.map(|place| place as u64))
 }
 
 // Winner, focus, tier.
 pub fn picked_words(p: Picked) -> [u64; 6]
-    ensures { result ≡ picked_words p }
+    ensures { result ≡ picked_words (answered p) }
 {
-    let winner = p.winner;
-    let w = winner_words(winner);
-    let focus = p.focus;
-    let level = focus.current_focus;
-    let f = focus_words(level);
-    let tier = p.tier;
+    let winner = winner_words(p.winner);
+    let focus = focus_words(p.focus);
     [
-        w.flag,
-        w.place,
-        f.flag,
-        f.level,
-        focus.streak as u64,
-        u64::from(tier),
+        winner[0],
+        winner[1],
+        focus[0],
+        focus[1],
+        focus[2],
+        u64::from(p.tier),
     ]
 }

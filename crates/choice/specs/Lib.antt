@@ -1,2 +1,3 @@
 -- The choice with its focus.
+pub mod PickAnswer
 pub mod Choice

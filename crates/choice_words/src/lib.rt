@@ -5,15 +5,15 @@ ghost use Rattle.std.specs.Prelude.{◌≡◌, length};
 ghost use Rattle.refusals.specs.Written.{written_out};
 ghost use Rattle.decisions.specs.Decision.{decision_words};
 ghost use Rattle.trace.specs.Trace.{decision_of};
+ghost use Rattle.choice.specs.Choice.{answered};
 ghost use Rattle.answer_words.specs.AnswerWords.{answer_fault, picked_words};
 ghost use Rattle.choice_words.specs.ChoiceWords.{picked_by, pick_refusal, is_picked, case_fault, picked_in};
 
 use answer_words::answer;
 use choice::Picked;
-use kinds::focus::{FocusLevel, FocusState};
+use kinds::focus::FocusState;
 use kinds::tier::SelectionTier;
 use kinds::vector::PressureVector;
-use kinds::winner::Winner;
 use state_words::{NO_SUCH_CASE, focus_good, focus_of};
 
 fn case_fault(good: bool, refusal: u64) -> u64
@@ -39,10 +39,14 @@ pub fn pick_best_cause_aware(
     ensures picked_after { picked.new ≡ written_out result (picked_words (picked_by vector flag level streak candidates.now estimates.now)) picked.old }
 {
     let focus = focus_of(flag, level, streak);
-    let p = choice::pick_best_cause_aware(vector, focus, candidates, estimates);
-    let refusal = case_fault(focus_good(flag, level as u64), p.refusal);
-    let six = answer_words::picked_words(p);
-    answer(picked, refusal, &six)
+    let good = focus_good(flag, level as u64);
+    match choice::pick_best_cause_aware(vector, focus, candidates, estimates) {
+        Ok(p) => {
+            let six = answer_words::picked_words(p);
+            answer(picked, case_fault(good, refusals::NONE), &six)
+        }
+        Err(refusal) => case_fault(good, u64::from(refusal)),
+    }
 }
 
 fn is_picked(words: &[u64]) -> bool
@@ -55,35 +59,29 @@ fn is_picked(words: &[u64]) -> bool
 }
 
 // Of a choice the decision has only the winner and the tier.
+#[tactic(auto, unfolding(crate::specs::ChoiceWords::picked_in))]
 fn picked_in(words: &[u64]) -> Picked
-    ensures { result ≡ picked_in words.now }
+    ensures { answered result ≡ picked_in words.now }
 {
     let focus = FocusState {
-        current_focus: FocusLevel::None,
+        current_focus: None,
         streak: 0,
     };
-    if is_picked(words) {
-        let tier = decisions::tier_of(words[5]);
-        if words[0] == 1 {
-            return Picked {
-                refusal: refusals::NONE,
-                winner: Winner::At(words[1] as usize),
-                focus,
-                tier,
-            };
-        }
+    if !is_picked(words) {
         return Picked {
-            refusal: refusals::NONE,
-            winner: Winner::None,
+            winner: None,
             focus,
-            tier,
+            tier: SelectionTier::None,
         };
     }
     Picked {
-        refusal: refusals::NONE,
-        winner: Winner::None,
+        winner: if words[0] == 1 {
+            Some(words[1] as usize)
+        } else {
+            None
+        },
         focus,
-        tier: SelectionTier::None,
+        tier: decisions::tier_of(words[5]),
     }
 }
 

@@ -1,13 +1,9 @@
 -- 01's number, and its values, for each case of an enum. Definitions only.
-use Rattle.std.specs.Prelude.{ℕ, List, [], ◌∷◌, Option, None, Some}
+use Rattle.std.specs.Prelude.{ℕ, List, [], ◌∷◌, Option, Some, None}
 use Rattle.kinds.specs.declared.mode.GovernorMode.{GovernorMode}
 use Rattle.kinds.specs.declared.mode.GovernorMode.TheVariants.{Balanced, ReadProtect, WriteEmergency}
 use Rattle.kinds.specs.declared.vector.PressureSource.{PressureSource}
 use Rattle.kinds.specs.declared.vector.PressureSource.TheVariants as Source
-use Rattle.kinds.specs.declared.focus.FocusLevel.{FocusLevel}
-use Rattle.kinds.specs.declared.focus.FocusLevel.TheVariants as Focus
-use Rattle.kinds.specs.declared.winner.Winner.{Winner}
-use Rattle.kinds.specs.declared.winner.Winner.TheVariants as Winning
 use Rattle.kinds.specs.declared.tier.SelectionTier.{SelectionTier}
 use Rattle.kinds.specs.declared.tier.SelectionTier.TheVariants as Tier
 use Rattle.kinds.specs.declared.kind.CandidateKind.{CandidateKind}
@@ -30,15 +26,18 @@ tier_number Tier.L0 = 1
 tier_number Tier.FocusContinued = 2
 tier_number Tier.FocusReselected = 3
 
--- 1 and the level, or 0 and 0
-abbrev pub focus_numbers : FocusLevel → List ℕ
-focus_numbers Focus.None = 0 ∷ 0 ∷ []
-focus_numbers (Focus.Level l) = 1 ∷ l ∷ []
+-- 1 and the number, or 0 and 0
+abbrev pub option_numbers : Option ℕ → List ℕ
+option_numbers None = 0 ∷ 0 ∷ []
+option_numbers (Some n) = 1 ∷ n ∷ []
 
--- 1 and the place, or 0 and 0
-abbrev pub winner_numbers : Winner → List ℕ
-winner_numbers Winning.None = 0 ∷ 0 ∷ []
-winner_numbers (Winning.At k) = 1 ∷ k ∷ []
+-- of a focus its level
+abbrev pub focus_numbers : Option ℕ → List ℕ
+focus_numbers = option_numbers
+
+-- of a winner its place
+abbrev pub winner_numbers : Option ℕ → List ℕ
+winner_numbers = option_numbers
 
 -- the number, level and length of what was chosen, 0 for none; a level or length that the kind lacks is 0
 abbrev pub kind_number : Option CandidateKind → ℕ

@@ -1,13 +1,7 @@
 // The focus of the choice: a level, and how often it was taken in a row.
 
-#[derive(Clone, Copy)]
-pub enum FocusLevel {
-    None,
-    Level(u32),
-}
-
-#[derive(Clone, Copy)]
+#[derive(Debug, Clone, Copy, PartialEq, Eq, Default)]
 pub struct FocusState {
-    pub current_focus: FocusLevel,
+    pub current_focus: Option<u32>,
     pub streak: u32,
 }

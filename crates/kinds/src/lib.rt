@@ -7,4 +7,3 @@ pub mod mode;
 pub mod tier;
 pub mod tuning;
 pub mod vector;
-pub mod winner;

@@ -1,4 +1,5 @@
 -- 01 (c): an estimate's bytes and files are drawn from the tables that the candidate's numbers name, each once a number, and a winner is one of the candidates.
+use Rattle.std.specs.Prelude.{Some}
 use Prim.Native.Nat.{ℕ, ◌+◌, ◌≤◌, ◌<◌}
 use native.Mathlib.Omega.{arith}
 use mathlib.Core.Path.{◌≡◌, refl, sym, ap, subst, ◌∙◌}
@@ -17,7 +18,6 @@ use Rattle.estimates.specs.Estimate.{matched, off_level, is_l0_candidate, inputs
 use Rattle.estimates.specs.Estimate.Members.{level_and_rest}
 use Rattle.kinds.specs.declared.vector.PressureVector.{PressureVector}
 use Rattle.kinds.specs.declared.focus.FocusState.{FocusState}
-use Rattle.kinds.specs.declared.winner.Winner.TheVariants.{At}
 use Rattle.candidate_records.specs.Candidates.{candidates_of}
 use Rattle.choice.specs.Choice.Call.{picked_of}
 use Rattle.choice.specs.Choice.Laws.{winner-below}
@@ -112,5 +112,5 @@ module _ (ts : List Table) (next : ℕ) (es : List Entry) (ns : List ℕ) (c : C
       go true = omega (arith, filter-small (λ t. eqb t.level 0) tables, named_few ts named)
       go false = omega arith
 
-pub winner-listed : (v : PressureVector) (f : FocusState) (cw ew : List ℕ) (k : ℕ) → (picked_of v f cw ew).winner ≡ At k → k < length (candidates_of cw)
+pub winner-listed : (v : PressureVector) (f : FocusState) (cw ew : List ℕ) (k : ℕ) → (picked_of v f cw ew).winner ≡ Some k → k < length (candidates_of cw)
 winner-listed = winner-below

@@ -1,4 +1,5 @@
 -- Every round whose vector is in range goes as specs/Round.antt says.
+use Rattle.std.specs.Prelude.{Some, None}
 use Prim.Native.Nat.{ℕ, zero, suc, ◌%◌, ◌<◌}
 use native.Mathlib.Omega.{arith}
 use mathlib.Core.Path.{◌≡◌, refl, sym, ◌∙◌, ap}
@@ -12,7 +13,6 @@ use Rattle.lists.specs.Tests.{neither, both, by-test}
 use Rattle.refusals.specs.Refusals.{◌gives◌, no_room}
 use Rattle.refusals.specs.Checks.{fault_in}
 use Rattle.kinds.specs.declared.tier.SelectionTier.TheVariants.{None as NoTier}
-use Rattle.kinds.specs.declared.winner.Winner.TheVariants.{None as NoWinner, At}
 use Rattle.candidate_records.specs.declared.Candidate.{Candidate}
 use Rattle.candidate_records.specs.Candidates.{candidate_at, no_candidate}
 use Rattle.candidate_faults.specs.Candidates.{fits_kind, candidate_broken}
@@ -22,7 +22,7 @@ use Rattle.candidates.specs.ReadBack.{offers_back, words-read, candidates-length
 use Rattle.estimate_faults.specs.Faults.{estimate_fault}
 use Rattle.estimates.specs.Estimate.Call.{estimate_words}
 use Rattle.estimates.specs.Estimate.Accepted.{accepted, estimated-refusal}
-use Rattle.choice.specs.declared.Picked.{Picked}
+use Rattle.choice.specs.PickAnswer.{PickAnswer}
 use Rattle.choice.specs.Choice.{no_focus, answer_of}
 use Rattle.choice.specs.Choice.Call.{pick_fault}
 use Rattle.choice.specs.Choice.Laws.{winner-below}
@@ -69,14 +69,14 @@ module _ (r : RoundInput) where
     won : 0 < (generated r).candidates → Wins r.state.focus (candidates r) (picked r)
     won h = wins (vector r) r.state.focus _ _ selection_fault (omega (arith, counts e.0, reads e.0))
 
-    idle : (generated r).candidates ≡ 0 → picked r ≡ answer_of NoWinner no_focus NoTier
+    idle : (generated r).candidates ≡ 0 → picked r ≡ answer_of None no_focus NoTier
     idle h = nothing-wins (vector r) r.state.focus _ _ selection_fault (omega (arith, counts e.0, reads e.0))
 
     accepts : (n : ℕ) → (generated r).candidates ≡ n → (picked r).refusal ≡ 0
-    accepts zero h = ap (λ (p : Picked). p.refusal) (idle h)
+    accepts zero h = ap (λ (p : PickAnswer). p.refusal) (idle h)
     accepts (suc n) h = won-accepted (won (omega arith)).won
 
-    says : (k : ℕ) → (picked r).winner ≡ At k → Says (candidate_at (candidates r) k) (decided r).chosen
+    says : (k : ℕ) → (picked r).winner ≡ Some k → Says (candidate_at (candidates r) k) (decided r).chosen
     says k w =
         let c : Candidate = candidate_at (candidates r) k in
         let kinds : any_of candidate_broken (candidates r) ≡ false = (neither (not (eqb (length (candidate_words r.lent) % 6) 0)) _ (accepted (asked r) r.estimate_room estimation_fault).kinds).1 in

@@ -1,10 +1,9 @@
 -- One round, from an observed state and table words to a logged decision: the calls in their order, each on the words that the one before it wrote.
-use Rattle.std.specs.Prelude.{Option, None as Nothing, ℕ, ◌+◌, ◌-◌, ◌*◌, ◌^◌, ◌<◌, ◌≡◌, true, false, ltb, length, drop}
+use Rattle.std.specs.Prelude.{Option, Some, None, ℕ, ◌+◌, ◌-◌, ◌*◌, ◌^◌, ◌<◌, ◌≡◌, true, false, ltb, length, drop}
 use mathlib.Core.List.{List, [], ◌∷◌, ◌++◌, map, Memᴰ}
 use Rattle.refusals.specs.Refusals.{◌gives◌, first_fault, none, too_large, counter_full, too_many, bad_record, bad_level, no_room, bad_log, duplicate_number}
 use Rattle.kinds.specs.declared.vector.PressureVector.{PressureVector}
 use Rattle.kinds.specs.declared.tier.SelectionTier.TheVariants.{None as NoTier}
-use Rattle.kinds.specs.declared.winner.Winner.TheVariants.{None as NoWinner, At}
 use Rattle.kinds.specs.declared.kind.CandidateKind.{CandidateKind}
 use Rattle.kinds.specs.Numbers.{kind_number, kind_level, kind_length}
 use Rattle.candidate_records.specs.declared.Candidate.{Candidate}
@@ -16,7 +15,7 @@ use Rattle.candidates.specs.Generate.{GenerateInput, made_of, candidate_words, n
 use Rattle.candidates.specs.ReadBack.{offer_in}
 use Rattle.estimate_faults.specs.Faults.{EstimateInput}
 use Rattle.estimates.specs.Estimate.Call.{Estimated, estimate_words, estimated_of}
-use Rattle.choice.specs.declared.Picked.{Picked}
+use Rattle.choice.specs.PickAnswer.{PickAnswer}
 use Rattle.choice.specs.Choice.{no_focus, answer_of}
 use Rattle.choice.specs.Choice.Call.{picked_of}
 use Rattle.choice.specs.Choice.Wins.{Wins}
@@ -55,7 +54,7 @@ module _ (r : RoundInput) where
   abbrev pub estimated : Estimated
   estimated = estimated_of asked r.estimate_room
 
-  abbrev pub picked : Picked
+  abbrev pub picked : PickAnswer
   picked = picked_of vector r.state.focus (candidate_words r.lent) (estimate_words asked)
 
   abbrev pub decided : SchedulingDecision
@@ -100,10 +99,10 @@ pub record Round (r : RoundInput) : Type 0 where
   -- selection then refuses nothing; with a candidate it has a winner, whose tier and focus say how it won
   pub selection : Estimates r → (picked r).refusal ≡ none
   pub winner : Estimates r → 0 < (generated r).candidates → Wins r.state.focus (candidates r) (picked r)
-  pub no-winner : Estimates r → (generated r).candidates ≡ 0 → picked r ≡ answer_of NoWinner no_focus NoTier
+  pub no-winner : Estimates r → (generated r).candidates ≡ 0 → picked r ≡ answer_of None no_focus NoTier
   -- the decision has the kind that the winner's words say, and its own words are a decision
-  pub chosen : Estimates r → (k : ℕ) → (picked r).winner ≡ At k → Says (candidate_at (candidates r) k) (decided r).chosen
-  pub none-chosen : (picked r).winner ≡ NoWinner → (decided r).chosen ≡ Nothing
+  pub chosen : Estimates r → (k : ℕ) → (picked r).winner ≡ Some k → Says (candidate_at (candidates r) k) (decided r).chosen
+  pub none-chosen : (picked r).winner ≡ None → (decided r).chosen ≡ None
   pub decision : is_decision (decision_words (decided r)) ≡ true
   -- a bad log refuses it by 10; in any other it is the newest kept, with the log's sequence, and the log is good again
   pub refused : log_bad r.log (length r.words) ≡ true → (recorded r).refusal ≡ bad_log

@@ -14,7 +14,7 @@ use Rattle.kinds.specs.Vector.{dominant_of}
 use Rattle.candidates.specs.Generate.{generate_input, GenerateInput, candidate_words, number_words, generated_of}
 use Rattle.estimate_faults.specs.Faults.{estimate_input, EstimateInput}
 use Rattle.estimates.specs.Estimate.Call.{estimate_words, estimated_of}
-use Rattle.choice.specs.declared.Picked.{Picked}
+use Rattle.choice.specs.PickAnswer.{PickAnswer}
 use Rattle.choice.specs.Choice.{no_focus}
 use Rattle.choice.specs.Choice.Call.{picked_of}
 use Rattle.governor_promises.specs.Reading.{sampled}
@@ -51,7 +51,7 @@ equal (m ∷ ms) [] = false
 equal (m ∷ ms) (n ∷ ns) = eqb m n && equal ms ns
 
 -- refusal, winner, focus, streak, tier
-abbrev pub choice_numbers : Picked → List ℕ
+abbrev pub choice_numbers : PickAnswer → List ℕ
 choice_numbers p = p.refusal ∷ winner_numbers p.winner ++ focus_numbers p.focus.current_focus ++ p.focus.streak ∷ tier_number p.tier ∷ []
 
 abbrev pub estimating : GenerateInput → ℕ → EstimateInput

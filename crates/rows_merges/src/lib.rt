@@ -6,7 +6,7 @@ ghost use Rattle.std.specs.Prelude.{◌≤◌};
 use arith::floats;
 use candidate_records::CandidateEstimate;
 use choice::Picked;
-use kinds::winner::Winner;
+use kinds::tier::SelectionTier;
 use rows_state::states;
 use rows_state::states::float;
 use rows_words::words;
@@ -60,26 +60,32 @@ fn estimate_at(args: &[u64; WORDS]) -> CandidateEstimate {
     }
 }
 
-fn winner_words(winner: Winner) -> [u64; 2] {
+fn winner_words(winner: Option<usize>) -> [u64; 2] {
     match winner {
-        Winner::None => [0, 0],
-        Winner::At(place) => [1, place as u64],
+        None => [0, 0],
+        Some(place) => [1, place as u64],
     }
 }
 
 fn picked(args: &[u64; WORDS]) -> [u64; SHORT] {
-    let p = choice::pick_best_cause_aware(
+    let before = states::focus_at(args, 3);
+    let answer = choice::pick_best_cause_aware(
         states::vector_at(args, 0),
-        states::focus_at(args, 3),
+        before,
         words::part(args, 6),
         words::part(args, words::after_list(args, 6)),
     );
-    let winner = p.winner;
-    let won = winner_words(winner);
+    // A refused choice has no winner and no tier, and leaves the focus as it was.
+    let p = answer.unwrap_or(Picked {
+        winner: None,
+        focus: before,
+        tier: SelectionTier::None,
+    });
+    let won = winner_words(p.winner);
     let focus = states::focus_words(p.focus);
     words::told(
         &[
-            p.refusal,
+            choice::code(answer),
             won[0],
             won[1],
             focus[0],
@@ -93,18 +99,14 @@ fn picked(args: &[u64; WORDS]) -> [u64; SHORT] {
 
 // ---- the decision
 
-fn winner_of(won: u64, place: u64) -> Winner {
-    if won == 0 {
-        return Winner::None;
-    }
-    Winner::At(place as usize)
+fn winner_of(won: u64, place: u64) -> Option<usize> {
+    if won == 0 { None } else { Some(place as usize) }
 }
 
 fn decision(args: &[u64; WORDS]) -> [u64; SHORT] {
     let d = trace::scheduling_decision(
         states::vector_at(args, 0),
         Picked {
-            refusal: word(args, 3),
             winner: winner_of(word(args, 4), word(args, 5)),
             focus: states::focus_at(args, 6),
             tier: decisions::tier_of(word(args, 9)),

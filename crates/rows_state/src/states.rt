@@ -1,6 +1,6 @@
 // A governor's state as the 27 words of a list, which a question has at its front.
 use arith::floats;
-use kinds::focus::{FocusLevel, FocusState};
+use kinds::focus::FocusState;
 use kinds::mode::GovernorMode;
 use kinds::vector::PressureVector;
 use rows_words::words::{WORDS, word};
@@ -27,11 +27,8 @@ pub fn mode_of(n: u64) -> GovernorMode {
     }
 }
 
-fn level_of(flag: u64, level: u32) -> FocusLevel {
-    if flag == 0 {
-        return FocusLevel::None;
-    }
-    FocusLevel::Level(level)
+fn level_of(flag: u64, level: u32) -> Option<u32> {
+    if flag == 0 { None } else { Some(level) }
 }
 
 // The focus whose flag, level and streak stand from a place on.
@@ -47,8 +44,8 @@ pub fn focus_words(focus: FocusState) -> [u64; 3] {
     let level = focus.current_focus;
     let streak = wide(focus.streak);
     match level {
-        FocusLevel::None => [0, 0, streak],
-        FocusLevel::Level(n) => [1, wide(n), streak],
+        None => [0, 0, streak],
+        Some(n) => [1, wide(n), streak],
     }
 }
 

@@ -1,11 +1,9 @@
 -- The candidates of a call with their scores, as records that carry their place, and the last of the best of them. Definitions only.
 pub mod LastBest
-use Rattle.std.specs.Prelude.{ℕ, suc, Bool, cond, ◌&&◌, List, [], ◌∷◌, ltb, eqb, Float}
+use Rattle.std.specs.Prelude.{ℕ, suc, Bool, cond, ◌&&◌, List, [], ◌∷◌, ltb, eqb, Float, Option, Some, None}
 use Rattle.std.specs.Float.Ieee.{le, lt}
 use Rattle.arith.specs.Floats.{f1}
 use Rattle.kinds.specs.declared.vector.PressureVector.{PressureVector}
-use Rattle.kinds.specs.declared.winner.Winner.{Winner}
-use Rattle.kinds.specs.declared.winner.Winner.TheVariants.{None as NoWinner, At}
 use Rattle.candidate_records.specs.declared.Candidate.{Candidate}
 use Rattle.candidate_records.specs.declared.CandidateEstimate.{CandidateEstimate}
 use Rattle.scores.specs.Score.{score_of}
@@ -52,6 +50,6 @@ abbrev pub saturated : Choice → Bool
 saturated c = eqb c.kind 2 && le f1 c.relief
 
 -- the place of the first, or none
-abbrev pub winner_of : List Choice → Winner
-winner_of [] = NoWinner
-winner_of (c ∷ cs) = At c.place
+abbrev pub winner_of : List Choice → Option ℕ
+winner_of [] = None
+winner_of (c ∷ cs) = Some c.place

@@ -1,7 +1,7 @@
 -- The choices of a call as the code reads them, place by place, and what the search compares. Definitions only.
 pub mod Reading
 pub mod Pass
-use Rattle.std.specs.Prelude.{ℕ, suc, Bool, true, false, cond, ◌&&◌, List, [], ◌∷◌, length, get_or, replicate, eqb, Float}
+use Rattle.std.specs.Prelude.{ℕ, suc, Bool, true, false, cond, ◌&&◌, List, [], ◌∷◌, length, get_or, replicate, eqb, Float, Option, Some, None}
 use Rattle.std.proofs.lemmas.List.Edits.{sets}
 use Rattle.std.specs.Float.{nan}
 use Rattle.lists.specs.Filter.{filter_of}
@@ -11,8 +11,6 @@ use Rattle.kinds.specs.declared.vector.PressureVector.{PressureVector}
 use Rattle.candidate_records.specs.declared.Candidate.{Candidate}
 use Rattle.candidate_records.specs.declared.CandidateEstimate.{CandidateEstimate}
 use Rattle.candidate_records.specs.Candidates.{candidates_of, estimates_of, candidate_at, estimate_at}
-use Rattle.kinds.specs.declared.winner.Winner.{Winner}
-use Rattle.kinds.specs.declared.winner.Winner.TheVariants.{None as NoWinner, At}
 use Rattle.search.specs.declared.Search.{Search}
 use Rattle.search.specs.declared.Search.TheVariants.{All, OfLevel, Batches}
 use Rattle.faults.specs.Limits.{max_candidates}
@@ -38,9 +36,9 @@ read_choice cw ew ss k =
 abbrev pub read_choices : List ℕ → List ℕ → List Float → List Choice
 read_choices cw ew ss = tabulate (read_choice cw ew ss) (length (candidates_of cw)) 0
 
-unfoldable pub first_l0 : ℕ → List Candidate → Winner
-first_l0 i [] = NoWinner
-first_l0 i (c ∷ cs) = cond (eqb c.kind 1) (At i) (first_l0 (suc i) cs)
+unfoldable pub first_l0 : ℕ → List Candidate → Option ℕ
+first_l0 i [] = None
+first_l0 i (c ∷ cs) = cond (eqb c.kind 1) (Some i) (first_l0 (suc i) cs)
 
 -- ---- what is compared
 
@@ -61,9 +59,9 @@ best_of (OfLevel l) cs = last_best lower_score (filter_of (on_level l) cs)
 best_of (Batches l) cs = last_best shorter (filter_of saturated (filter_of (on_level l) cs))
 
 -- the choice at a winner's place, or none
-abbrev pub held_in : (ℕ → Choice) → Winner → List Choice
-held_in read NoWinner = []
-held_in read (At k) = read k ∷ []
+abbrev pub held_in : (ℕ → Choice) → Option ℕ → List Choice
+held_in read None = []
+held_in read (Some k) = read k ∷ []
 
 -- one more is less than the best so far
 abbrev pub loses : (Choice → Choice → Bool) → List Choice → Choice → Bool

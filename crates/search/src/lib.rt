@@ -10,7 +10,6 @@ ghost use Rattle.search.specs.Search.{score_array, first_l0, read_choice, read_c
 
 use faults::limits::MAX_CANDIDATES;
 use kinds::vector::PressureVector;
-use kinds::winner::Winner;
 use scores::cause_aware_score;
 
 pub type Scores = [f64; MAX_CANDIDATES];
@@ -41,7 +40,7 @@ pub fn all_scores(vector: PressureVector, estimates: &[u64]) -> Scores
     scores
 }
 
-pub fn first_l0(candidates: &[u64]) -> Winner
+pub fn first_l0(candidates: &[u64]) -> Option<usize>
     ensures { result ≡ first_l0 0 (candidates_of candidates.now) }
 {
     let n = candidate_records::candidate_count(candidates);
@@ -49,26 +48,26 @@ pub fn first_l0(candidates: &[u64]) -> Winner
     while i < n {
         let c = candidate_records::candidate_at(candidates, i);
         if c.kind == 1 {
-            return Winner::At(i);
+            return Some(i);
         }
         i += 1;
     }
-    Winner::None
+    None
 }
 
 // The best of what is compared, the last on a tie.
-pub fn last_best(search: Search, candidates: &[u64], estimates: &[u64], scores: Scores) -> Winner
+pub fn last_best(search: Search, candidates: &[u64], estimates: &[u64], scores: Scores) -> Option<usize>
     ensures { held_in (read_choice candidates.now estimates.now scores) result ≡ best_of search (read_choices candidates.now estimates.now scores) }
 {
     let n = candidate_records::candidate_count(candidates);
-    let mut best = Winner::None;
+    let mut best = None;
     let mut i: usize = 0;
     while i < n {
         let here = i;
         i += 1;
         if is_compared(search, candidates, estimates, here) {
             if !is_below_best(search, candidates, scores, best, here) {
-                best = Winner::At(here);
+                best = Some(here);
             }
         }
     }
@@ -108,14 +107,14 @@ fn is_below_best(
     search: Search,
     candidates: &[u64],
     scores: Scores,
-    best: Winner,
+    best: Option<usize>,
     here: usize,
 ) -> bool
     ensures { (ew : List ℕ) → result ≡ loses (below search) (held_in (read_choice candidates.now ew scores) best) (read_choice candidates.now ew scores here) }
 {
     match best {
-        Winner::None => false,
-        Winner::At(place) => match search {
+        None => false,
+        Some(place) => match search {
             Search::All => scores_below(scores, here, place),
             Search::OfLevel(_) => scores_below(scores, here, place),
             Search::Batches(_) => {

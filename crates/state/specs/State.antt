@@ -1,11 +1,10 @@
 -- A fresh state, and a state with another focus; a counter that cannot go up, and what a call that may be refused answers. Definitions only.
-use Rattle.std.specs.Prelude.{ℕ, ◌+◌, ◌-◌, ◌^◌, Bool, cond, ltb, eqb}
+use Rattle.std.specs.Prelude.{ℕ, ◌+◌, ◌-◌, ◌^◌, Bool, cond, ltb, eqb, None}
 use Rattle.refusals.specs.Refusals.{none}
 use Rattle.state.specs.declared.GovernorState.{GovernorState}
 use Rattle.state.specs.declared.Observed.{Observed}
 use Rattle.kinds.specs.declared.mode.GovernorMode.TheVariants.{Balanced}
 use Rattle.kinds.specs.declared.focus.FocusState.{FocusState}
-use Rattle.kinds.specs.declared.focus.FocusLevel.TheVariants.{None as Nothing}
 use Rattle.arith.specs.Floats.{f0}
 
 -- a counter that cannot go up
@@ -27,7 +26,7 @@ fresh_of clock =
             debt_ewma = f0;
             pressure_vector = record { l0 = f0; deep_debt = f0; read = f0 };
           };
-      focus = record { current_focus = Nothing; streak = 0 };
+      focus = record { current_focus = None; streak = 0 };
       streaks = record { enter_read_protect = 0; exit_read_protect = 0; exit_emergency = 0 };
       times = record { balanced = 0; read_protect = 0; write_emergency = 0; last_transition = clock };
       window = record { last_probed = 0; last_resolved = 0 };

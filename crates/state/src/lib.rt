@@ -4,7 +4,7 @@
 ghost use Rattle.std.specs.Prelude.{◌≡◌};
 ghost use Rattle.state.specs.State.{fresh_of, focused_of};
 
-use kinds::focus::{FocusLevel, FocusState};
+use kinds::focus::FocusState;
 use kinds::mode::GovernorMode;
 use kinds::vector::PressureVector;
 
@@ -87,10 +87,7 @@ pub fn fresh(clock: u64) -> GovernorState
                 read: 0.0,
             },
         },
-        focus: FocusState {
-            current_focus: FocusLevel::None,
-            streak: 0,
-        },
+        focus: FocusState::default(),
         streaks: Streaks {
             enter_read_protect: 0,
             exit_read_protect: 0,

@@ -2,14 +2,12 @@
 pub mod Sound
 pub mod Back
 pub mod Kept
-use Rattle.std.specs.Prelude.{◌≡◌, ℕ, ◌+◌, ◌-◌, ◌^◌, ◌≤◌, Bool, cond, ◌&&◌, List, [], ◌∷◌, length, get_or, leb, eqb}
+use Rattle.std.specs.Prelude.{◌≡◌, ℕ, ◌+◌, ◌-◌, ◌^◌, ◌≤◌, Bool, cond, ◌&&◌, List, [], ◌∷◌, length, get_or, leb, eqb, Option, Some, None}
 use Rattle.std.specs.Float.{binary64}
 use Rattle.std.specs.Float.Ieee.{of_bits, to_bits}
 use Rattle.refusals.specs.Refusals.{none}
 use Rattle.kinds.specs.declared.mode.GovernorMode.{GovernorMode}
 use Rattle.kinds.specs.declared.mode.GovernorMode.TheVariants.{Balanced, ReadProtect, WriteEmergency}
-use Rattle.kinds.specs.declared.focus.FocusLevel.{FocusLevel}
-use Rattle.kinds.specs.declared.focus.FocusLevel.TheVariants.{None as Nothing, Level}
 use Rattle.kinds.specs.declared.focus.FocusState.{FocusState}
 use Rattle.kinds.specs.declared.vector.PressureVector.{PressureVector}
 use Rattle.kinds.specs.Numbers.{mode_number, focus_numbers}
@@ -71,7 +69,7 @@ unfoldable pub mode_from : ℕ → GovernorMode
 mode_from n = cond (eqb n 0) Balanced (cond (eqb n 1) ReadProtect WriteEmergency)
 
 unfoldable pub focus_from : ℕ → ℕ → ℕ → FocusState
-focus_from flag level streak = record { current_focus = cond (eqb flag 0) Nothing (Level level); streak = streak }
+focus_from flag level streak = record { current_focus = cond (eqb flag 0) None (Some level); streak = streak }
 
 unfoldable pub vector_in : List ℕ → PressureVector
 vector_in ws = record { l0 = of_bits binary64 (get_or ws 6 0); deep_debt = of_bits binary64 (get_or ws 7 0); read = of_bits binary64 (get_or ws 8 0) }
@@ -122,11 +120,15 @@ state_in ws = cond (is_state ws) (state_from ws) (fresh_of 0)
 
 -- ---- its words
 
-abbrev pub focus_flag : FocusLevel → ℕ
+abbrev pub focus_flag : Option ℕ → ℕ
 focus_flag f = get_or (focus_numbers f) 0 0
 
-abbrev pub focus_level : FocusLevel → ℕ
+abbrev pub focus_level : Option ℕ → ℕ
 focus_level f = get_or (focus_numbers f) 1 0
+
+-- the level's two, and the streak
+abbrev pub focus_words : FocusState → List ℕ
+focus_words f = focus_flag f.current_focus ∷ focus_level f.current_focus ∷ f.streak ∷ []
 
 unfoldable pub state_words : GovernorState → List ℕ
 state_words s =

@@ -2,10 +2,11 @@
 #![tactic(auto)]
 
 ghost use Rattle.std.specs.Prelude.{◌≡◌, ◌-◌, ◌^◌, ◌≤◌, length};
-ghost use Rattle.state_words.specs.StateWords.{mode_from, focus_good, focus_from, streaks_good, is_state, vector_in, signals_in, streaks_in, times_in, counters_in, Good, state_from, state_in, focus_flag, focus_level, state_words, gated, refusal_of, words_after};
+ghost use Rattle.kinds.specs.Numbers.{option_numbers};
+ghost use Rattle.state_words.specs.StateWords.{mode_from, focus_good, focus_from, streaks_good, is_state, vector_in, signals_in, streaks_in, times_in, counters_in, Good, state_from, state_in, focus_words, state_words, gated, refusal_of, words_after};
 
 use arith::floats;
-use kinds::focus::{FocusLevel, FocusState};
+use kinds::focus::FocusState;
 use kinds::mode::GovernorMode;
 use kinds::vector::PressureVector;
 use state::{Counters, GovernorState, Observed, Signals, Streaks, Times, Window};
@@ -66,17 +67,12 @@ pub fn mode_of(n: u64) -> GovernorMode
     }
 }
 
+#[tactic(auto, unfolding(crate::specs::StateWords::focus_from))]
 pub fn focus_of(flag: u64, level: u32, streak: u32) -> FocusState
     ensures { result ≡ focus_from flag level streak }
 {
-    if flag == 0 {
-        return FocusState {
-            current_focus: FocusLevel::None,
-            streak,
-        };
-    }
     FocusState {
-        current_focus: FocusLevel::Level(level),
+        current_focus: if flag == 0 { None } else { Some(level) },
         streak,
     }
 }
@@ -177,23 +173,22 @@ pub fn state_in(words: &[u64]) -> GovernorState
     state::fresh(0)
 }
 
-// Whether there is a level, and which.
-#[derive(Clone, Copy)]
-pub struct FocusWords {
-    pub flag: u64,
-    pub level: u64,
+// An option's two words: 1 and its number, or 0 and 0.
+pub fn option_words(option: Option<u64>) -> [u64; 2]
+    ensures { result ≡ option_numbers option }
+{
+    match option {
+        None => [0, 0],
+        Some(number) => [1, number],
+    }
 }
 
-pub fn focus_words(f: FocusLevel) -> FocusWords
-    ensures { (result.flag ≡ focus_flag f) × (result.level ≡ focus_level f) }
+// The level's two words, and the streak.
+pub fn focus_words(focus: FocusState) -> [u64; 3]
+    ensures { result ≡ focus_words focus }
 {
-    match f {
-        FocusLevel::None => FocusWords { flag: 0, level: 0 },
-        FocusLevel::Level(l) => FocusWords {
-            flag: 1,
-            level: l as u64,
-        },
-    }
+    let level = option_words(focus.current_focus.map(u64::from));
+    [level[0], level[1], u64::from(focus.streak)]
 }
 
 pub fn to_words(s: GovernorState) -> [u64; STATE_WORDS]
@@ -201,9 +196,7 @@ pub fn to_words(s: GovernorState) -> [u64; STATE_WORDS]
 {
     let mode = s.mode;
     let v = s.signals.pressure_vector;
-    let focus = s.focus;
-    let level = focus.current_focus;
-    let f = focus_words(level);
+    let focus = focus_words(s.focus);
     [
         TAG,
         mode.idx(),
@@ -214,9 +207,9 @@ pub fn to_words(s: GovernorState) -> [u64; STATE_WORDS]
         floats::to_bits(v.l0),
         floats::to_bits(v.deep_debt),
         floats::to_bits(v.read),
-        f.flag,
-        f.level,
-        focus.streak as u64,
+        focus[0],
+        focus[1],
+        focus[2],
         s.streaks.enter_read_protect as u64,
         s.streaks.exit_read_protect as u64,
         s.streaks.exit_emergency as u64,

@@ -1,14 +1,12 @@
 -- The decision that a choice leads to: the vector with its dominant component, the tier, how many candidates there were, and of the winner its kind, the bytes to rewrite and the three reliefs. Definitions only.
-use Rattle.std.specs.Prelude.{ℕ, List, length}
+use Rattle.std.specs.Prelude.{ℕ, List, length, Option, Some, None}
 use Rattle.kinds.specs.declared.vector.PressureVector.{PressureVector}
 use Rattle.kinds.specs.declared.tier.SelectionTier.{SelectionTier}
 use Rattle.kinds.specs.Vector.{dominant_of}
 use Rattle.candidate_records.specs.declared.Candidate.{Candidate}
 use Rattle.candidate_records.specs.declared.CandidateEstimate.{CandidateEstimate}
 use Rattle.candidate_records.specs.Candidates.{candidates_of, estimates_of, candidate_at, estimate_at, no_candidate, no_estimate}
-use Rattle.choice.specs.declared.Picked.{Picked}
-use Rattle.kinds.specs.declared.winner.Winner.{Winner}
-use Rattle.kinds.specs.declared.winner.Winner.TheVariants.{None, At}
+use Rattle.choice.specs.PickAnswer.{PickAnswer}
 use Rattle.decisions.specs.declared.SchedulingDecision.{SchedulingDecision}
 use Rattle.decisions.specs.Decision.{chosen_from}
 
@@ -29,11 +27,11 @@ decision_for v tier n c e =
     }
 
 -- the winner's records; with no winner records of zeros, of which the kind is none
-abbrev pub chosen_records : Winner → List Candidate → List CandidateEstimate → Candidate × CandidateEstimate
+abbrev pub chosen_records : Option ℕ → List Candidate → List CandidateEstimate → Candidate × CandidateEstimate
 chosen_records None cs es = (no_candidate, no_estimate)
-chosen_records (At k) cs es = (candidate_at cs k, estimate_at es k)
+chosen_records (Some k) cs es = (candidate_at cs k, estimate_at es k)
 
-unfoldable pub decision_of : PressureVector → Picked → List ℕ → List ℕ → SchedulingDecision
+unfoldable pub decision_of : PressureVector → PickAnswer → List ℕ → List ℕ → SchedulingDecision
 decision_of v p cw ew =
     let r = chosen_records p.winner (candidates_of cw) (estimates_of ew) in
     decision_for v p.tier (length (candidates_of cw)) r.0 r.1

@@ -2,6 +2,7 @@
 #![tactic(auto)]
 
 ghost use Rattle.std.specs.Prelude.{◌≡◌};
+ghost use Rattle.choice.specs.Choice.{answered};
 ghost use Rattle.trace.specs.Trace.{decision_of, decision_for};
 
 use candidate_records::{Candidate, CandidateEstimate};
@@ -9,7 +10,6 @@ use choice::Picked;
 use decisions::SchedulingDecision;
 use kinds::tier::SelectionTier;
 use kinds::vector::PressureVector;
-use kinds::winner::Winner;
 
 // The log gives the sequence.
 fn decision(
@@ -42,20 +42,19 @@ pub fn scheduling_decision(
     candidates: &[u64],
     estimates: &[u64],
 ) -> SchedulingDecision
-    ensures { result ≡ decision_of vector picked candidates.now estimates.now }
+    ensures { result ≡ decision_of vector (answered picked) candidates.now estimates.now }
 {
     let considered = candidate_records::candidate_count(candidates) as u64;
     let tier = picked.tier;
-    let winner = picked.winner;
-    match winner {
-        Winner::None => decision(
+    match picked.winner {
+        None => decision(
             vector,
             tier,
             considered,
             candidate_records::candidate_at(&candidates[0..0], 0),
             candidate_records::estimate_at(&estimates[0..0], 0),
         ),
-        Winner::At(place) => decision(
+        Some(place) => decision(
             vector,
             tier,
             considered,

@@ -4,4 +4,4 @@ use Rattle.answer_words.proofs.picked_words.Goals as goal
 
 pub returns : goal.returns
 unfolding picked_words
-returns c = rw (c.from.ensures, c.focus_words-f.ensures.0, c.focus_words-f.ensures.1, c.winner_words-w.ensures.0, c.winner_words-w.ensures.1)
+returns c = rw (c.from.ensures, c.focus_words-focus.ensures, c.winner_words-winner.ensures)

@@ -1,12 +1,11 @@
 -- The call `pick_best_cause_aware`: its refusals in 01's order, and its answer. Definitions only.
-use Rattle.std.specs.Prelude.{ℕ, ◌%◌, Bool, not, cond, ◌&&◌, ◌||◌, List, [], ◌∷◌, length, eqb}
+use Rattle.std.specs.Prelude.{ℕ, ◌%◌, Bool, not, cond, ◌&&◌, ◌||◌, List, [], ◌∷◌, length, eqb, None}
 use Rattle.refusals.specs.Refusals.{Check, ◌gives◌, first_fault, none, too_many, bad_record, bad_vector, bad_estimate}
 use Rattle.lists.specs.Any.{any_of}
 use Rattle.kinds.specs.declared.vector.PressureVector.{PressureVector}
 use Rattle.kinds.specs.declared.focus.FocusState.{FocusState}
 use Rattle.kinds.specs.declared.tier.SelectionTier.TheVariants.{None as NoTier}
-use Rattle.kinds.specs.declared.winner.Winner.TheVariants.{None as NoWinner}
-use Rattle.choice.specs.declared.Picked.{Picked}
+use Rattle.choice.specs.PickAnswer.{PickAnswer}
 use Rattle.candidate_records.specs.Candidates.{candidates_of, estimates_of}
 use Rattle.candidate_faults.specs.Candidates.{too_many_candidates, broken_candidates, in_unit, estimate_out}
 use Rattle.search.specs.Choices.{choices_from}
@@ -32,7 +31,7 @@ unfoldable pub pick_fault : PressureVector → List ℕ → List ℕ → ℕ
 pick_fault v cw ew = first_fault (pick_checks v cw ew)
 
 -- refused: the old focus, no winner, no tier
-unfoldable pub picked_of : PressureVector → FocusState → List ℕ → List ℕ → Picked
+unfoldable pub picked_of : PressureVector → FocusState → List ℕ → List ℕ → PickAnswer
 picked_of v f cw ew =
     cond (eqb (pick_fault v cw ew) none) (choice_of f (choices_from v 0 (candidates_of cw) (estimates_of ew)))
-    (record { refusal = pick_fault v cw ew; winner = NoWinner; focus = f; tier = NoTier })
+    (record { refusal = pick_fault v cw ew; winner = None; focus = f; tier = NoTier })

@@ -1,7 +1,7 @@
 -- What a reader of `pick_best_cause_aware` wants to know: the winner is in the list, with an L0 nothing else matters, and otherwise no score compared is above the winner's.
 use Rattle.std.proofs.Math.Path.{◌≡◌, refl, sym, ap}
 use Rattle.std.proofs.Common.{◌∙◌, subst, true≢false, ltb-false, eq-eqb, eqb-true}
-use Rattle.std.specs.Prelude.{Bool, not, cond, ◌&&◌, ◌||◌, ℕ, suc, ◌+◌, ◌^◌, ◌<◌, ltb, Float}
+use Rattle.std.specs.Prelude.{Bool, not, cond, ◌&&◌, ◌||◌, ℕ, suc, ◌+◌, ◌^◌, ◌<◌, ltb, Float, Some, None}
 use Rattle.std.proofs.Math.Bool.{true, false}
 use mathlib.Core.List.Memᴰ
 use mathlib.Core.List.{List, [], ◌∷◌, Memᴰ}
@@ -17,8 +17,7 @@ use Rattle.kinds.specs.declared.focus.FocusState.{FocusState}
 use Rattle.candidate_records.specs.declared.Candidate.{Candidate}
 use Rattle.candidate_records.specs.declared.CandidateEstimate.{CandidateEstimate}
 use Rattle.kinds.specs.declared.tier.SelectionTier.TheVariants.{None as NoTier, L0}
-use Rattle.kinds.specs.declared.winner.Winner.TheVariants.{None as NoWinner, At}
-use Rattle.choice.specs.declared.Picked.{Picked}
+use Rattle.choice.specs.PickAnswer.{PickAnswer}
 use Rattle.candidate_records.specs.Candidates.{candidates_of, estimates_of}
 use Rattle.candidate_faults.specs.Candidates.{in_unit, estimate_out}
 use Rattle.scores.specs.Score.{score_of}
@@ -89,7 +88,7 @@ module _ (v : PressureVector) (f : FocusState) (cw ew : List ℕ) where
   abbrev all : List Choice
   all = choices_from v 0 (candidates_of cw) (estimates_of ew)
 
-  abbrev others : Picked
+  abbrev others : PickAnswer
   others = focused f.current_focus f.streak all
 
   module _ (z : pick_fault v cw ew ≡ 0) where
@@ -101,7 +100,7 @@ module _ (v : PressureVector) (f : FocusState) (cw ew : List ℕ) where
     l0-first = l0_is v 0 (candidates_of cw) (estimates_of ew) (pickable v cw ew z).paired
 
     -- with an L0 the answer is the first one's place, whatever the vector, the focus and the estimates
-    pub l0-wins : (k : ℕ) → first_l0 0 (candidates_of cw) ≡ At k → picked_of v f cw ew ≡ answer_of (At k) no_focus L0
+    pub l0-wins : (k : ℕ) → first_l0 0 (candidates_of cw) ≡ Some k → picked_of v f cw ew ≡ answer_of (Some k) no_focus L0
     unfolding choice_of
     l0-wins k e = picked_is ∙ sym (first-at k (filter_of is_l0_choice all) others (sym (l0-first ∙ e)))
 
@@ -116,26 +115,26 @@ module _ (v : PressureVector) (f : FocusState) (cw ew : List ℕ) where
         subst (λ (n : ℕ). Won all compared (choice_at all n)) q (subst (Won all compared) s.3 w.3)
 
     -- with none, no score compared is above the winner's and none after it equals it, unless it yields to the longest saturated batch of its level
-    pub best-wins : (k : ℕ) → first_l0 0 (candidates_of cw) ≡ NoWinner → (picked_of v f cw ew).winner ≡ At k → Won all (compared_by (picked_of v f cw ew).tier f.current_focus all) (choice_at all k)
+    pub best-wins : (k : ℕ) → first_l0 0 (candidates_of cw) ≡ None → (picked_of v f cw ew).winner ≡ Some k → Won all (compared_by (picked_of v f cw ew).tier f.current_focus all) (choice_at all k)
     unfolding choice_of
     best-wins k n e =
         let p : picked_of v f cw ew ≡ others = picked_is ∙ sym (first-none (filter_of is_l0_choice all) others (sym (l0-first ∙ n))) in
         rw p (won-there k _ (focused-at all ps k f.current_focus f.streak (rw p at e)))
 
-    listed : (k : ℕ) → (choice_of f all).winner ≡ At k → (c : Choice) × Memᴰ c all × (c.place ≡ k)
+    listed : (k : ℕ) → (choice_of f all).winner ≡ Some k → (c : Choice) × Memᴰ c all × (c.place ≡ k)
     unfolding choice_of first_or
     listed k e = go (filter_of is_l0_choice all) refl e
       where
-        go : (firsts : List Choice) → filter_of is_l0_choice all ≡ firsts → (first_or firsts others).winner ≡ At k → (c : Choice) × Memᴰ c all × (c.place ≡ k)
+        go : (firsts : List Choice) → filter_of is_l0_choice all ≡ firsts → (first_or firsts others).winner ≡ Some k → (c : Choice) × Memᴰ c all × (c.place ≡ k)
         go [] n q = let w = focused-at all ps k f.current_focus f.streak q in (w.0, w.1, w.2)
         go (c ∷ cs) n q = (c, (filter_in is_l0_choice all c (subst (Memᴰ c) (sym n) (Memᴰ.head refl))).0, cc)
 
   -- the winner's place is below the number of candidates, refused or not
-  pub winner-below : (k : ℕ) → (picked_of v f cw ew).winner ≡ At k → k < length (candidates_of cw)
+  pub winner-below : (k : ℕ) → (picked_of v f cw ew).winner ≡ Some k → k < length (candidates_of cw)
   unfolding picked_of
   winner-below k e = go (eqb (pick_fault v cw ew) 0) refl e
     where
-      go : (t : Bool) → eqb (pick_fault v cw ew) 0 ≡ t → (cond t (choice_of f all) (record { refusal = pick_fault v cw ew; winner = NoWinner; focus = f; tier = NoTier })).winner ≡ At k → k < length (candidates_of cw)
+      go : (t : Bool) → eqb (pick_fault v cw ew) 0 ≡ t → (cond t (choice_of f all) (record { refusal = pick_fault v cw ew; winner = None; focus = f; tier = NoTier })).winner ≡ Some k → k < length (candidates_of cw)
       go true t h =
           let w = listed (eqb-true (pick_fault v cw ew) 0 t) k h in
           let s = stands v 0 (candidates_of cw) (estimates_of ew) w.0 w.1 in

@@ -1,5 +1,5 @@
 -- An accepted choice with a candidate has a winner, by one of the three tiers; with none it has nothing.
-use Rattle.std.specs.Prelude.{◌≡◌, Bool, true, false, cond, ℕ, ◌+◌, ◌<◌, ltb}
+use Rattle.std.specs.Prelude.{◌≡◌, Bool, true, false, cond, ℕ, ◌+◌, ◌<◌, ltb, Option, Some, None}
 use Rattle.std.proofs.Math.Path.{refl, ap}
 use Rattle.std.proofs.Common.{sym, ◌∙◌, zero-add, arith}
 use mathlib.Core.List.{List, [], ◌∷◌, Memᴰ}
@@ -10,17 +10,14 @@ use Rattle.lists.specs.Any.{get_or_in, in_at}
 use Rattle.lists.specs.Filter.{filter_of, filter_in, filter-has, filter_none}
 use Rattle.kinds.specs.declared.vector.PressureVector.{PressureVector}
 use Rattle.kinds.specs.declared.focus.FocusState.{FocusState}
-use Rattle.kinds.specs.declared.focus.FocusLevel.{FocusLevel}
-use Rattle.kinds.specs.declared.focus.FocusLevel.TheVariants.{None as Nothing, Level}
 use Rattle.kinds.specs.declared.tier.SelectionTier.TheVariants.{None as NoTier, L0, FocusContinued, FocusReselected}
-use Rattle.kinds.specs.declared.winner.Winner.TheVariants.{None as NoWinner, At}
 use Rattle.candidate_records.specs.declared.Candidate.{Candidate}
 use Rattle.candidate_records.specs.declared.CandidateEstimate.{CandidateEstimate}
 use Rattle.candidate_records.specs.Candidates.{candidates_of, estimates_of, candidate_at}
 use Rattle.search.specs.Choices.{Choice, choices_from, last_best, lower_score, shorter, is_l0_choice, on_level, saturated, winner_of}
 use Rattle.search.specs.Choices.LastBest.{best-some}
 use Rattle.search.specs.Search.Reading.{choice_at, no_choice, choices_length, choices_at}
-use Rattle.choice.specs.declared.Picked.{Picked}
+use Rattle.choice.specs.PickAnswer.{PickAnswer}
 use Rattle.choice.specs.Choice.{yields, best_within, no_focus, focus_on, answer_of, reselected_by, reselected, continued_by, continued, focus_max_jobs, focused, first_or, choice_of}
 use Rattle.choice.specs.Choice.Call.{pick_fault, picked_of}
 use Rattle.choice.specs.Choice.Accepted.{pickable}
@@ -28,12 +25,12 @@ use Rattle.choice.specs.Choice.Accepted.{pickable}
 -- ---- how one wins
 
 -- a candidate at place k wins, f being the focus before: as an L0, which clears the focus; or, where there is no L0, as the best of the focus level, or of a level chosen anew
-pub data WonBy (f : FocusState) (k kind level : ℕ) : Picked → Type 0 where
-  first : kind ≡ 1 → WonBy f k kind level (answer_of (At k) no_focus L0)
-  again : ¬ (kind ≡ 1) → f.current_focus ≡ Level level → f.streak < focus_max_jobs → WonBy f k kind level (answer_of (At k) (focus_on level (f.streak + 1)) FocusContinued)
-  anew : ¬ (kind ≡ 1) → WonBy f k kind level (answer_of (At k) (focus_on level 1) FocusReselected)
+pub data WonBy (f : FocusState) (k kind level : ℕ) : PickAnswer → Type 0 where
+  first : kind ≡ 1 → WonBy f k kind level (answer_of (Some k) no_focus L0)
+  again : ¬ (kind ≡ 1) → f.current_focus ≡ Some level → f.streak < focus_max_jobs → WonBy f k kind level (answer_of (Some k) (focus_on level (f.streak + 1)) FocusContinued)
+  anew : ¬ (kind ≡ 1) → WonBy f k kind level (answer_of (Some k) (focus_on level 1) FocusReselected)
 
-abbrev WonAs : FocusState → Choice → Picked → Type 0
+abbrev WonAs : FocusState → Choice → PickAnswer → Type 0
 WonAs f w p = WonBy f w.place w.kind w.level p
 
 module _ (all : List Choice) where
@@ -58,7 +55,7 @@ module _ (all : List Choice) where
       go b i false s = let h = there b i in (b, refl, h.0, h.1)
 
   -- one of them won
-  abbrev OneWon : FocusState → Picked → Type 0
+  abbrev OneWon : FocusState → PickAnswer → Type 0
   OneWon f p = (w : Choice) × Memᴰ w all × WonAs f w p
 
   module _ (f : FocusState) (none : (w : Choice) → Memᴰ w all → ¬ (w.kind ≡ 1)) where
@@ -71,7 +68,7 @@ module _ (all : List Choice) where
         go : (l : ℕ) → (w : Choice) × (best_within l all ≡ w ∷ []) × Memᴰ w all × (w.level ≡ l) → OneWon f (answer_of (winner_of (best_within l all)) (focus_on l 1) FocusReselected)
         go l (w, e, k, h) = (w, k, rw (e, ← h) (anew (none w k)))
 
-    won-again : (l : ℕ) → f.current_focus ≡ Level l → f.streak < focus_max_jobs → (c : Choice) → Memᴰ c all → OneWon f (continued l f.streak all)
+    won-again : (l : ℕ) → f.current_focus ≡ Some l → f.streak < focus_max_jobs → (c : Choice) → Memᴰ c all → OneWon f (continued l f.streak all)
     unfolding continued_by best_within yields last_best
     won-again l e s c m = go (filter_of (on_level l) all) refl
       where
@@ -83,12 +80,12 @@ module _ (all : List Choice) where
             there w.0 w.1 w.2 w.3
           where
             there : (w : Choice) → best_within l all ≡ w ∷ [] → Memᴰ w all → w.level ≡ l → OneWon f (continued l f.streak all)
-            there w b k h = (w, k, rw (b, ← h) (again (none w k) (e ∙ ap Level (sym h)) s))
+            there w b k h = (w, k, rw (b, ← h) (again (none w k) (e ∙ ap Some (sym h)) s))
 
-    won-focused : (c : Choice) → Memᴰ c all → (l : FocusLevel) → f.current_focus ≡ l → OneWon f (focused l f.streak all)
+    won-focused : (c : Choice) → Memᴰ c all → (l : Option ℕ) → f.current_focus ≡ l → OneWon f (focused l f.streak all)
     unfolding focused
-    won-focused c m Nothing e = won-anew c m
-    won-focused c m (Level l) e =
+    won-focused c m None e = won-anew c m
+    won-focused c m (Some l) e =
         by-test (OneWon f) (ltb f.streak focus_max_jobs) _ _ (λ t. won-again l e (ltb-true f.streak focus_max_jobs t) c m) (λ t. won-anew c m)
 
   one-won : (f : FocusState) (c : Choice) → Memᴰ c all → OneWon f (choice_of f all)
@@ -99,18 +96,18 @@ module _ (all : List Choice) where
       go [] e = won-focused f (λ w k. eqb-false w.kind 1 (filter_none is_l0_choice all e w k)) c m f.current_focus refl
       go (x ∷ xs) e = let i = filter_in is_l0_choice all x (rw e (Memᴰ.head refl)) in (x, i.0, first (eqb-true x.kind 1 i.1))
 
-none_of : (f : FocusState) → choice_of f [] ≡ answer_of NoWinner no_focus NoTier
+none_of : (f : FocusState) → choice_of f [] ≡ answer_of None no_focus NoTier
 unfolding choice_of first_or focused continued_by reselected_by best_within yields last_best filter_of
 none_of f = go f.current_focus
   where
-    go : (l : FocusLevel) → focused l f.streak [] ≡ answer_of NoWinner no_focus NoTier
-    go Nothing = refl
-    go (Level l) = cond_same (ltb f.streak focus_max_jobs) _
+    go : (l : Option ℕ) → focused l f.streak [] ≡ answer_of None no_focus NoTier
+    go None = refl
+    go (Some l) = cond_same (ltb f.streak focus_max_jobs) _
 
 -- ---- of the call
 
 -- one of some candidates won
-pub record Wins (f : FocusState) (cs : List Candidate) (p : Picked) : Type 0 where
+pub record Wins (f : FocusState) (cs : List Candidate) (p : PickAnswer) : Type 0 where
   pub place : ℕ
   pub listed : place < length cs
   pub won : WonBy f place (candidate_at cs place).kind (candidate_at cs place).level p
@@ -125,7 +122,7 @@ module _ (v : PressureVector) (f : FocusState) (cw ew : List ℕ) (z : pick_faul
   paired : length cs ≡ length es
   paired = (pickable v cw ew z).paired
 
-  of_list : (p : Picked) → OneWon (choices_from v 0 cs es) f p → Wins f cs p
+  of_list : (p : PickAnswer) → OneWon (choices_from v 0 cs es) f p → Wins f cs p
   of_list p (w, m, b) =
       let s = in_at (choices_from v 0 cs es) no_choice w m in
       let k : s.0 < length cs = omega (arith, s.1, choices_length v 0 cs es paired) in
@@ -140,10 +137,10 @@ module _ (v : PressureVector) (f : FocusState) (cw ew : List ℕ) (z : pick_faul
       rw (eq-eqb (pick_fault v cw ew) 0 z) (of_list (choice_of f all) (one-won all f (choice_at all 0) (get_or_in all 0 no_choice some)))
 
   -- with no candidate nothing wins, and the focus is cleared
-  pub nothing-wins : length cs ≡ 0 → picked_of v f cw ew ≡ answer_of NoWinner no_focus NoTier
+  pub nothing-wins : length cs ≡ 0 → picked_of v f cw ew ≡ answer_of None no_focus NoTier
   unfolding picked_of choices_from
   nothing-wins e = rw (eq-eqb (pick_fault v cw ew) 0 z) (go cs e)
     where
-      go : (some : List Candidate) → length some ≡ 0 → choice_of f (choices_from v 0 some es) ≡ answer_of NoWinner no_focus NoTier
+      go : (some : List Candidate) → length some ≡ 0 → choice_of f (choices_from v 0 some es) ≡ answer_of None no_focus NoTier
       go [] n = none_of f
       go (c ∷ more) n = absurd (omega arith)

@@ -1,5 +1,5 @@
 -- By which comparison a choice wins where no L0 is.
-use Rattle.std.specs.Prelude.{◌≡◌, refl, Bool, cond, ℕ, T, ltb}
+use Rattle.std.specs.Prelude.{◌≡◌, refl, Bool, cond, ℕ, T, ltb, Option, Some, None}
 use Rattle.std.proofs.Common.{sym, ◌∙◌, subst, true≢false, arith, ltb-true, ltb-false, le-ltb, eqb-true, eq-eqb}
 use Rattle.std.proofs.Math.Bool.{true, false}
 use mathlib.Core.List.Memᴰ
@@ -8,11 +8,8 @@ use Rattle.std.specs.Float.Ieee.{is_nan, lt}
 use Rattle.std.specs.Float.Ieee.Bits.{is_true}
 use Rattle.std.proofs.lemmas.Bool.{not-true}
 use Rattle.arith.specs.Floats.Order.{le_is, le_trans, lt-le, not_lt_le}
-use Rattle.kinds.specs.declared.focus.FocusLevel.{FocusLevel}
-use Rattle.kinds.specs.declared.focus.FocusLevel.TheVariants.{None as Nothing, Level}
 use Rattle.kinds.specs.declared.tier.SelectionTier.{SelectionTier}
 use Rattle.kinds.specs.declared.tier.SelectionTier.TheVariants.{None as NoTier, L0, FocusContinued, FocusReselected}
-use Rattle.kinds.specs.declared.winner.Winner.TheVariants.{None as NoWinner, At}
 use Rattle.lists.specs.Filter.{filter_of, filter_in}
 use Rattle.search.specs.Choices.{Choice, last_best, lower_score, shorter, saturated, on_level, winner_of}
 use Rattle.choice.specs.Choice.{yields, best_within, focus_max_jobs, reselected_by, reselected, continued_by, continued, focused}
@@ -51,21 +48,21 @@ pub record Won (all compared : List Choice) (w : Choice) : Type 0 where
   pub longest : saturated top ≡ true → LastBest shorter (filter_of saturated (filter_of (on_level top.level) all)) w
 
 -- the choices compared: the focus level's while focus goes on, else all
-abbrev pub compared_by : SelectionTier → FocusLevel → List Choice → List Choice
+abbrev pub compared_by : SelectionTier → Option ℕ → List Choice → List Choice
 compared_by NoTier f all = all
 compared_by L0 f all = all
-compared_by FocusContinued Nothing all = all
-compared_by FocusContinued (Level l) all = filter_of (on_level l) all
+compared_by FocusContinued None all = all
+compared_by FocusContinued (Some l) all = filter_of (on_level l) all
 compared_by FocusReselected f all = all
 
 -- a choice of the list won, at place k
 abbrev pub WonAt : List Choice → ℕ → List Choice → Type 0
 WonAt all k compared = (w : Choice) × Memᴰ w all × (w.place ≡ k) × Won all compared w
 
-none : {X : Type 0} (k : ℕ) → NoWinner ≡ At k → X
+none : {X : Type 0} (k : ℕ) → None ≡ Some k → X
 none k e = let z : ◌≡◌ {A = ℕ} 0 1 = cc in absurd (omega arith)
 
-first_found : (cs : List Choice) (k : ℕ) → winner_of cs ≡ At k → (c : Choice) × Memᴰ c cs × (c.place ≡ k)
+first_found : (cs : List Choice) (k : ℕ) → winner_of cs ≡ Some k → (c : Choice) × Memᴰ c cs × (c.place ≡ k)
 first_found [] k e = none k e
 first_found (c ∷ cs) k e = (c, Memᴰ.head refl, cc)
 
@@ -124,7 +121,7 @@ module _ (all : List Choice) (ps : Each Number all) where
 
   -- ---- of an answer
 
-  reselected-at : (k : ℕ) (f : FocusLevel) (tops : List Choice) → Each (LastBest lower_score all) tops → (reselected_by all tops).winner ≡ At k → WonAt all k (compared_by (reselected_by all tops).tier f all)
+  reselected-at : (k : ℕ) (f : Option ℕ) (tops : List Choice) → Each (LastBest lower_score all) tops → (reselected_by all tops).winner ≡ Some k → WonAt all k (compared_by (reselected_by all tops).tier f all)
   unfolding reselected_by
   reselected-at k f [] b e = none k e
   reselected-at k f (t ∷ ts) b e =
@@ -132,17 +129,17 @@ module _ (all : List Choice) (ps : Each Number all) where
       let h = within-won t.level w.0 w.1 in
       (w.0, h.0, w.2, overall t w.0 (b t (Memᴰ.head refl)) h.1)
 
-  continued-at : (k l streak : ℕ) (bests : List Choice) → ((w : Choice) → Memᴰ w bests → Memᴰ w all × Won all (filter_of (on_level l) all) w) → (continued_by l streak all bests).winner ≡ At k → WonAt all k (compared_by (continued_by l streak all bests).tier (Level l) all)
+  continued-at : (k l streak : ℕ) (bests : List Choice) → ((w : Choice) → Memᴰ w bests → Memᴰ w all × Won all (filter_of (on_level l) all) w) → (continued_by l streak all bests).winner ≡ Some k → WonAt all k (compared_by (continued_by l streak all bests).tier (Some l) all)
   unfolding continued_by
-  continued-at k l streak [] f e = reselected-at k (Level l) (last_best lower_score all) (last-best lower_score Number score-order all ps) e
+  continued-at k l streak [] f e = reselected-at k (Some l) (last_best lower_score all) (last-best lower_score Number score-order all ps) e
   continued-at k l streak (b ∷ bs) f e = let h = f b (Memᴰ.head refl) in (b, h.0, cc, h.1)
 
-  pub focused-at : (k : ℕ) (f : FocusLevel) (streak : ℕ) → (focused f streak all).winner ≡ At k → WonAt all k (compared_by (focused f streak all).tier f all)
+  pub focused-at : (k : ℕ) (f : Option ℕ) (streak : ℕ) → (focused f streak all).winner ≡ Some k → WonAt all k (compared_by (focused f streak all).tier f all)
   unfolding focused
-  focused-at k Nothing streak e = reselected-at k Nothing (last_best lower_score all) (last-best lower_score Number score-order all ps) e
-  focused-at k (Level l) streak e = go (ltb streak focus_max_jobs) e
+  focused-at k None streak e = reselected-at k None (last_best lower_score all) (last-best lower_score Number score-order all ps) e
+  focused-at k (Some l) streak e = go (ltb streak focus_max_jobs) e
     where
-      go : (t : Bool) → (cond t (continued l streak all) (reselected all)).winner ≡ At k
-          → WonAt all k (compared_by (cond t (continued l streak all) (reselected all)).tier (Level l) all)
+      go : (t : Bool) → (cond t (continued l streak all) (reselected all)).winner ≡ Some k
+          → WonAt all k (compared_by (cond t (continued l streak all) (reselected all)).tier (Some l) all)
       go true q = continued-at k l streak (best_within l all) (within-won l) q
-      go false q = reselected-at k (Level l) (last_best lower_score all) (last-best lower_score Number score-order all ps) q
+      go false q = reselected-at k (Some l) (last_best lower_score all) (last-best lower_score Number score-order all ps) q

@@ -1,12 +1,10 @@
 -- `choice_words::pick_best_cause_aware` meets its contract.
-use Rattle.std.proofs.Common.{refl, ◌∙◌, ap}
-use Rattle.answer_words.specs.AnswerWords.{picked_words}
-use Rattle.answer_words.specs.AnswerWords.Told.{told}
+use Rattle.std.proofs.Common.{◌∙◌}
+use Rattle.choice_words.specs.ChoiceWords.Told.{refused_value, refused_words}
 use Rattle.choice_words.proofs.pick_best_cause_aware.Goals as goal
 
-pub returns : goal.returns
-unfolding picked_words
-returns c =
-    let p = rw c.focus_of-focus.ensures at c.pick_best_cause_aware-p.ensures in
-    let both = told _ _ _ _ 6 c.args.picked.now _ _ (rw (c.focus_good.ensures, p) at c.case_fault-refusal.ensures) (c.picked_words-six.ensures ∙ ap picked_words p) refl (c.answer.ensures.value, c.answer.ensures.out_after) in
-    record { value = both.0; picked_after = both.1 }
+pub returns-in-Err-clause-value : goal.returns-in-Err-clause-value
+returns-in-Err-clause-value c = rw (c.case_fault-in-Err.ensures, c.from.ensures, c.focus_good-good.ensures, ← c.focus_of-focus.ensures, ← c.in-Err.ensures.refusal) (refused_value _ _ _)
+
+pub returns-in-Err-clause-picked_after : goal.returns-in-Err-clause-picked_after
+returns-in-Err-clause-picked_after c = rw (c.case_fault-in-Err.ensures, c.from.ensures) (refused_words _ _ _ _)

@@ -1,13 +1,11 @@
 -- The pass of the search: the last of the best among the first so many places, one place at a time.
-use Rattle.std.specs.Prelude.{◌≡◌, Bool, ℕ, ◌+◌, ◌≤◌, ◌<◌, take}
+use Rattle.std.specs.Prelude.{◌≡◌, Bool, ℕ, ◌+◌, ◌≤◌, ◌<◌, take, Option, Some, None}
 use Rattle.std.proofs.Math.Path.{refl}
 use Rattle.std.proofs.Common.{◌∙◌, add-one, zero-add, arith, take-suc, take_all}
 use Rattle.std.proofs.Math.Bool.{true, false, cond}
 use mathlib.Core.List.{List, [], ◌∷◌, ◌++◌, append-nil}
 use Rattle.lists.specs.Filter.{filter_of, filter-append, filter-both, filter-all}
 use Rattle.lists.specs.Records.{tabulate, tabulate-length, tabulate-at}
-use Rattle.kinds.specs.declared.winner.Winner.{Winner}
-use Rattle.kinds.specs.declared.winner.Winner.TheVariants.{None as NoWinner, At}
 use Rattle.search.specs.declared.Search.{Search}
 use Rattle.search.specs.declared.Search.TheVariants.{All, OfLevel, Batches}
 use Rattle.search.specs.Choices.{Choice, last_from, last_best, saturated, on_level}
@@ -47,10 +45,10 @@ best_of_lem (Batches l) cs = rw (filter-both saturated (on_level l) cs)
 
 module _ (s : Search) (read : ℕ → Choice) (n : ℕ) where
   -- the best of the first i is held
-  abbrev pub Held : Winner → ℕ → Type 0
+  abbrev pub Held : Option ℕ → ℕ → Type 0
   Held best i = held_in read best ≡ last_best (below s) (filter_of (compared s) (take i (tabulate read n 0)))
 
-  pub held_start : Held NoWinner 0
+  pub held_start : Held None 0
   unfolding filter_of last_best
   held_start = refl
 
@@ -58,13 +56,13 @@ module _ (s : Search) (read : ℕ → Choice) (n : ℕ) where
   take_more i h = rw (add-one, take-suc (tabulate read n 0) i (read 0) (omega (arith, tabulate-length read n 0)), tabulate-at read n 0 i (read 0) h, zero-add)
 
   -- place i is compared or not, and the best so far stays or not
-  pub held_next : (best : Winner) (i : ℕ) (t l : Bool) → i < n → compared s (read i) ≡ t → loses (below s) (held_in read best) (read i) ≡ l → Held best i → Held (cond t (cond l best (At i)) best) (i + 1)
+  pub held_next : (best : Option ℕ) (i : ℕ) (t l : Bool) → i < n → compared s (read i) ≡ t → loses (below s) (held_in read best) (read i) ≡ l → Held best i → Held (cond t (cond l best (Some i)) best) (i + 1)
   held_next best i t l h a b e = rw (take_more i h, best_snoc (below s) (compared s) (take i (tabulate read n 0)) (read i), ← e, a, b) (go t l)
     where
-      go : (t l : Bool) → held_in read (cond t (cond l best (At i)) best) ≡ cond t (cond l (held_in read best) (read i ∷ [])) (held_in read best)
+      go : (t l : Bool) → held_in read (cond t (cond l best (Some i)) best) ≡ cond t (cond l (held_in read best) (read i ∷ [])) (held_in read best)
       go true true = refl
       go true false = refl
       go false l = refl
 
-  pub held-end : (best : Winner) (i : ℕ) → n ≤ i → Held best i → held_in read best ≡ best_of s (tabulate read n 0)
+  pub held-end : (best : Option ℕ) (i : ℕ) → n ≤ i → Held best i → held_in read best ≡ best_of s (tabulate read n 0)
   held-end best i h e = e ∙ rw (take_all i (tabulate read n 0) (omega (arith, tabulate-length read n 0))) (best_of_lem s (tabulate read n 0))

@@ -1,5 +1,5 @@
 -- The choices of a call are those that the code reads.
-use Rattle.std.specs.Prelude.{◌≡◌, Bool, length, get_or, drop, replicate, eqb, Float}
+use Rattle.std.specs.Prelude.{◌≡◌, Bool, length, get_or, drop, replicate, eqb, Float, Some, None}
 use Rattle.std.proofs.Math.Path.{refl, ap}
 use Rattle.std.proofs.Common.{sym, ◌∙◌, add-one, zero-add, suc-add, add-suc, arith, drop_of_length-le, drop-cons, ext_get_or}
 use Rattle.std.proofs.Math.Bool.{true, false, cond}
@@ -21,7 +21,6 @@ use Rattle.kinds.specs.declared.vector.PressureVector.{PressureVector}
 use Rattle.candidate_records.specs.declared.Candidate.{Candidate}
 use Rattle.candidate_records.specs.declared.CandidateEstimate.{CandidateEstimate}
 use Rattle.candidate_records.specs.Candidates.{candidates_of, estimates_of, candidate_at, estimate_at, no_candidate, no_estimate}
-use Rattle.kinds.specs.declared.winner.Winner.TheVariants.{None as NoWinner, At}
 use Rattle.scores.specs.Score.{score_of}
 use Rattle.search.specs.Choices.{Choice, choices_from, is_l0_choice, winner_of}
 use Rattle.search.specs.Search.{scores_of, score_array, read_choice, read_choices, first_l0}
@@ -38,7 +37,7 @@ made i c e s = record { place = i; kind = c.kind; level = c.level; batch_len = c
 -- ---- the first L0
 
 module _ (cs : List Candidate) (i : ℕ) where
-  pub l0-here : i < length cs → (candidate_at cs i).kind ≡ 1 → first_l0 i (drop i cs) ≡ At i
+  pub l0-here : i < length cs → (candidate_at cs i).kind ≡ 1 → first_l0 i (drop i cs) ≡ Some i
   unfolding first_l0
   l0-here h e = rw (drop-cons cs i no_candidate h, eq-eqb _ _ e)
 
@@ -46,7 +45,7 @@ module _ (cs : List Candidate) (i : ℕ) where
   unfolding first_l0
   l0-next h e = rw (drop-cons cs i no_candidate h, ne_eqb _ _ e, add-one)
 
-  pub l0-end : length cs ≤ i → first_l0 i (drop i cs) ≡ NoWinner
+  pub l0-end : length cs ≤ i → first_l0 i (drop i cs) ≡ None
   unfolding first_l0
   l0-end h = rw (drop_of_length-le cs h)
 
@@ -57,7 +56,7 @@ module _ (v : PressureVector) where
   l0_is i (c ∷ cs) [] h = absurd (omega arith)
   l0_is i (c ∷ cs) (e ∷ es) h = go (eqb c.kind 1) (l0_is (suc i) cs es (omega arith))
     where
-      go : (t : Bool) → winner_of (filter_of is_l0_choice (choices_from v (suc i) cs es)) ≡ first_l0 (suc i) cs → winner_of (cond t (made i c e (score_of v e) ∷ filter_of is_l0_choice (choices_from v (suc i) cs es)) (filter_of is_l0_choice (choices_from v (suc i) cs es))) ≡ cond t (At i) (first_l0 (suc i) cs)
+      go : (t : Bool) → winner_of (filter_of is_l0_choice (choices_from v (suc i) cs es)) ≡ first_l0 (suc i) cs → winner_of (cond t (made i c e (score_of v e) ∷ filter_of is_l0_choice (choices_from v (suc i) cs es)) (filter_of is_l0_choice (choices_from v (suc i) cs es))) ≡ cond t (Some i) (first_l0 (suc i) cs)
       go true k = refl
       go false k = k
 

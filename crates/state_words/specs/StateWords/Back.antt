@@ -1,13 +1,11 @@
 -- A state comes back whole from its words, as long as its fields fit their types.
-use Rattle.std.specs.Prelude.{◌≡◌, refl, ℕ, ◌-◌, ◌^◌, ◌≤◌, true, T, leb}
+use Rattle.std.specs.Prelude.{◌≡◌, refl, ℕ, ◌-◌, ◌^◌, ◌≤◌, true, T, leb, Option, Some, None}
 use Rattle.std.proofs.Common.{le-leb}
 use Rattle.std.specs.Float.{binary64}
 use Rattle.std.specs.Float.Ieee.{fits}
 use Rattle.std.specs.Float.Ieee.Bits.{of_bits-to_bits}
 use Rattle.kinds.specs.declared.mode.GovernorMode.{GovernorMode}
 use Rattle.kinds.specs.declared.mode.GovernorMode.TheVariants.{Balanced, ReadProtect, WriteEmergency}
-use Rattle.kinds.specs.declared.focus.FocusLevel.{FocusLevel}
-use Rattle.kinds.specs.declared.focus.FocusLevel.TheVariants.{None as Nothing, Level}
 use Rattle.kinds.specs.Numbers.{mode_number}
 use Rattle.state.specs.declared.GovernorState.{GovernorState}
 use Rattle.state_words.specs.StateWords.{focus_good, is_state, mode_from, focus_from, vector_in, signals_in, times_in, counters_in, state_from, state_in, focus_flag, focus_level, state_words}
@@ -47,15 +45,15 @@ mode-back Balanced = refl
 mode-back ReadProtect = refl
 mode-back WriteEmergency = refl
 
-pub focus-good : (f : FocusLevel) → focus_level f ≤ 2 ^ 32 - 1 → focus_good (focus_flag f) (focus_level f) ≡ true
+pub focus-good : (f : Option ℕ) → focus_level f ≤ 2 ^ 32 - 1 → focus_good (focus_flag f) (focus_level f) ≡ true
 unfolding focus_good
-focus-good Nothing h = refl
-focus-good (Level l) h = le-leb l (2 ^ 32 - 1) h
+focus-good None h = refl
+focus-good (Some l) h = le-leb l (2 ^ 32 - 1) h
 
-pub focus-back : (f : FocusLevel) (n : ℕ) → focus_from (focus_flag f) (focus_level f) n ≡ (record { current_focus = f; streak = n })
+pub focus-back : (f : Option ℕ) (n : ℕ) → focus_from (focus_flag f) (focus_level f) n ≡ (record { current_focus = f; streak = n })
 unfolding focus_from
-focus-back Nothing n = refl
-focus-back (Level l) n = refl
+focus-back None n = refl
+focus-back (Some l) n = refl
 
 pub words-good : (s : GovernorState) → Smalls s → is_state (state_words s) ≡ true
 unfolding is_state state_words

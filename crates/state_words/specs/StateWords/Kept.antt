@@ -1,9 +1,8 @@
 -- What the words of a state are by the state that is read from them: a call that leaves a field leaves its word.
-use Rattle.std.specs.Prelude.{◌≡◌, refl, ℕ, ◌≤◌, Bool, true, false, cond, ◌&&◌, List, length, get_or, leb, eqb}
+use Rattle.std.specs.Prelude.{◌≡◌, refl, ℕ, ◌≤◌, Bool, true, false, cond, ◌&&◌, List, length, get_or, leb, eqb, Some, None}
 use Rattle.std.proofs.Common.{sym, arith, leb-true, eqb-true}
 use Rattle.std.proofs.lemmas.Bool.{eqb-false}
 use Rattle.kinds.specs.declared.mode.GovernorMode.TheVariants.{Balanced, ReadProtect, WriteEmergency}
-use Rattle.kinds.specs.declared.focus.FocusLevel.TheVariants.{None as Nothing, Level}
 use Rattle.kinds.specs.Numbers.{mode_number}
 use Rattle.state_words.specs.StateWords.{tag, small, mode_from, focus_good, focus_from, focus_flag, focus_level, is_state}
 use Rattle.state_words.specs.StateWords.Sound.{both}
@@ -30,7 +29,7 @@ unfolding focus_good focus_from
 focus-words f l n = by (eqb f 0) refl
   where
     by : (b : Bool) → eqb f 0 ≡ b → cond b (eqb l 0) (eqb f 1 && small l) ≡ true
-        → (focus_flag (cond b Nothing (Level l)) ≡ f) × (focus_level (cond b Nothing (Level l)) ≡ l)
+        → (focus_flag (cond b None (Some l)) ≡ f) × (focus_level (cond b None (Some l)) ≡ l)
     by true p e = (sym (eqb-true f 0 p), sym (eqb-true l 0 e))
     by false p e = (sym (eqb-true f 1 (both {a = eqb f 1} e).0), refl)
 

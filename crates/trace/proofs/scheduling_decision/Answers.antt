@@ -9,6 +9,6 @@ pub returns-in-None : goal.returns-in-None
 unfolding decision_of candidates_of estimates_of records_of tabulate
 returns-in-None c = c.decision.ensures ∙ rw (c.estimate_at.ensures, c.candidate_at.ensures, c.candidate_count-considered.ensures, c.in-None.is)
 
-pub returns-in-At : goal.returns-in-At
+pub returns-in-Some : goal.returns-in-Some
 unfolding decision_of
-returns-in-At c = c.decision-in-At.ensures ∙ rw (c.estimate_at-in-At.ensures, c.candidate_at-in-At.ensures, c.candidate_count-considered.ensures, c.in-At.is)
+returns-in-Some c = c.decision-in-Some.ensures ∙ rw (c.estimate_at-in-Some.ensures, c.candidate_at-in-Some.ensures, c.candidate_count-considered.ensures, c.in-Some.is)
