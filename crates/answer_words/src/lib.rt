@@ -4,7 +4,8 @@
 ghost use Rattle.std.specs.Prelude.{◌≡◌, cond, length, eqb};
 ghost use Rattle.refusals.specs.Refusals.{none};
 ghost use Rattle.refusals.specs.Written.{written_out};
-ghost use Rattle.snapshot.specs.Snapshot.{figures, snapshot_refusal};
+ghost use Rattle.snapshot.specs.Snapshot.{figures};
+ghost use Rattle.snapshot.specs.Snapshot.Answered.{told_of};
 ghost use Rattle.std.specs.Float.{binary64};
 ghost use Rattle.std.specs.Float.Ieee.{of_bits, to_bits};
 ghost use Rattle.state_words.specs.StateWords.{state_in, gated};
@@ -14,7 +15,8 @@ use arith::floats;
 use choice::Picked;
 use kinds::winner::Winner;
 use pressure::pacing;
-use snapshot::{GovernorStats, SnapshotAnswer};
+use refusals::Refusal;
+use snapshot::GovernorStats;
 use state_words::{focus_words, is_state};
 
 // What the call refuses by comes before a buffer that is too short.
@@ -124,21 +126,13 @@ fn stats_words(t: GovernorStats) -> [u64; 14]
 }
 
 // Beside a refusal there are no figures: nobody gets the zeros.
-pub fn snapshot_words(a: SnapshotAnswer) -> [u64; 14]
-    ensures { result ≡ figures_or a }
+#[tactic(auto, unfolding(crate::specs::AnswerWords::figures_or))]
+pub fn snapshot_words(a: Result<GovernorStats, Refusal>) -> [u64; 14]
+    ensures { result ≡ figures_or (told_of a) }
 {
     match a {
-        SnapshotAnswer::Stats(t) => stats_words(t),
-        SnapshotAnswer::Refused(_) => [0; 14],
-    }
-}
-
-pub fn snapshot_refusal(a: SnapshotAnswer) -> u64
-    ensures { result ≡ snapshot_refusal a }
-{
-    match a {
-        SnapshotAnswer::Stats(_) => refusals::NONE,
-        SnapshotAnswer::Refused(n) => n,
+        Ok(t) => stats_words(t),
+        Err(_) => [0; 14],
     }
 }
 
