@@ -7,10 +7,8 @@ use Rattle.std.specs.Float.Ieee.{of_bits, to_bits}
 use Rattle.refusals.specs.Refusals.{none, no_room}
 use Rattle.kinds.specs.Numbers.{mode_number, tier_number, winner_numbers}
 use Rattle.state.specs.declared.GovernorState.{GovernorState}
-use Rattle.snapshot.specs.declared.SnapshotAnswer.{SnapshotAnswer}
-use Rattle.snapshot.specs.declared.SnapshotAnswer.TheVariants.{Stats, Refused}
 use Rattle.pressure.specs.Pacing.{pacing_of}
-use Rattle.snapshot.specs.Snapshot.{figures}
+use Rattle.snapshot.specs.Snapshot.{SnapshotAnswer, Stats, Refused, figures}
 use Rattle.choice.specs.PickAnswer.{PickAnswer}
 use Rattle.state_words.specs.StateWords.{no_such_case, mode_from, focus_flag, focus_level, is_state, state_in}
 

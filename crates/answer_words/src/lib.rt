@@ -5,7 +5,8 @@ ghost use Rattle.std.specs.Prelude.{◌≡◌, cond, length, eqb};
 ghost use Rattle.kinds.specs.Numbers.{winner_numbers};
 ghost use Rattle.refusals.specs.Refusals.{none};
 ghost use Rattle.refusals.specs.Written.{written_out};
-ghost use Rattle.snapshot.specs.Snapshot.{figures, snapshot_refusal};
+ghost use Rattle.snapshot.specs.Snapshot.{figures};
+ghost use Rattle.snapshot.specs.Snapshot.Answered.{told_of};
 ghost use Rattle.std.specs.Float.{binary64};
 ghost use Rattle.std.specs.Float.Ieee.{of_bits, to_bits};
 ghost use Rattle.choice.specs.Choice.{answered};
@@ -15,7 +16,8 @@ ghost use Rattle.answer_words.specs.AnswerWords.{answer_fault, reading_words, re
 use arith::floats;
 use choice::Picked;
 use pressure::pacing;
-use snapshot::{GovernorStats, SnapshotAnswer};
+use refusals::Refusal;
+use snapshot::GovernorStats;
 use state_words::{focus_words, is_state, option_words};
 
 // What the call refuses by comes before a buffer that is too short.
@@ -125,21 +127,13 @@ fn stats_words(t: GovernorStats) -> [u64; 14]
 }
 
 // Beside a refusal there are no figures: nobody gets the zeros.
-pub fn snapshot_words(a: SnapshotAnswer) -> [u64; 14]
-    ensures { result ≡ figures_or a }
+#[tactic(auto, unfolding(crate::specs::AnswerWords::figures_or))]
+pub fn snapshot_words(a: Result<GovernorStats, Refusal>) -> [u64; 14]
+    ensures { result ≡ figures_or (told_of a) }
 {
     match a {
-        SnapshotAnswer::Stats(t) => stats_words(t),
-        SnapshotAnswer::Refused(_) => [0; 14],
-    }
-}
-
-pub fn snapshot_refusal(a: SnapshotAnswer) -> u64
-    ensures { result ≡ snapshot_refusal a }
-{
-    match a {
-        SnapshotAnswer::Stats(_) => refusals::NONE,
-        SnapshotAnswer::Refused(n) => n,
+        Ok(t) => stats_words(t),
+        Err(_) => [0; 14],
     }
 }
 

@@ -15,8 +15,7 @@ use Rattle.kinds.specs.declared.kind.CandidateKind.TheVariants.{L0, LevelBatch, 
 use Rattle.kinds.specs.Numbers.{mode_number}
 use Rattle.kinds.specs.Tuning.{source}
 use Rattle.state.specs.declared.GovernorState.{GovernorState}
-use Rattle.state.specs.declared.Observed.{Observed}
-use Rattle.state.specs.State.{fresh_of}
+use Rattle.state.specs.State.{Observed, fresh_of}
 use Rattle.governor_promises.specs.Reading.{sampled, counted, ReadsAs}
 use Rattle.governor_promises.specs.Calls.{Action, observe, move, outcome, choose, focus, snapshot, EachCall, acted, after}
 use Rattle.governor_promises.specs.Times.{highest, ReadingFits, full_beside_time}

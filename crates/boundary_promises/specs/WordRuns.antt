@@ -4,7 +4,7 @@ use Rattle.kinds.specs.declared.kind.CandidateKind.{CandidateKind}
 use Rattle.kinds.specs.declared.kind.CandidateKind.TheVariants.{L0, LevelBatch, TrivialMove}
 use Rattle.kinds.specs.Tuning.{source}
 use Rattle.state.specs.declared.GovernorState.{GovernorState}
-use Rattle.state.specs.declared.Observed.{Observed}
+use Rattle.state.specs.State.{Observed}
 use Rattle.state.specs.Clock.{total_of}
 use Rattle.governor.specs.Observe.{observed_of}
 use Rattle.engine.specs.Engine.{engine_of}

@@ -1,12 +1,13 @@
 -- The governor's calls on numbers and words: what the numbers are to the calls below, and what is answered where they are none. Definitions only.
-use Rattle.std.specs.Prelude.{ℕ, cond, List, length, eqb, Float}
+pub mod Kinds
+use Rattle.std.specs.Prelude.{ℕ, Option, Some, None, cond, List, length, eqb, Float}
 use Rattle.refusals.specs.Refusals.{none}
+use Rattle.kinds.specs.declared.kind.CandidateKind.{CandidateKind}
 use Rattle.kinds.specs.declared.kind.CandidateKind.TheVariants.{L0, LevelBatch, TrivialMove}
 use Rattle.kinds.specs.declared.vector.PressureVector.{PressureVector}
 use Rattle.pressure.specs.declared.PressureSample.{PressureSample}
 use Rattle.state.specs.declared.GovernorState.{GovernorState}
-use Rattle.state.specs.declared.Observed.{Observed}
-use Rattle.state.specs.State.{fresh_of, focused_of, answered}
+use Rattle.state.specs.State.{Observed, fresh_of, focused_of, answered}
 use Rattle.report.specs.Counters.{chosen_of}
 use Rattle.windows.specs.declared.EngineSample.{EngineSample}
 use Rattle.windows.specs.declared.ReadAmpStats.{ReadAmpStats}
@@ -40,6 +41,9 @@ fresh_after ws clock = cond (eqb (length ws) 28) (state_words (fresh_of clock)) 
 -- ---- a kind, a focus by their numbers; any other number is refused, and nothing changes
 
 -- a chosen kind is 1 L0, 2 a batch, 3 a move
+unfoldable pub kind_by : ℕ → ℕ → ℕ → Option CandidateKind
+kind_by kind level n = cond (eqb kind 1) (Some L0) (cond (eqb kind 2) (Some (LevelBatch level n)) (cond (eqb kind 3) (Some (TrivialMove level)) None))
+
 unfoldable pub chosen_by : GovernorState → ℕ → ℕ → ℕ → Observed
 chosen_by s kind level n =
     cond (eqb kind 1) (answered none s (chosen_of s L0))

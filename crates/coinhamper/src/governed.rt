@@ -9,16 +9,14 @@ ghost use Rattle.governor.specs.Observe.{observed_of};
 ghost use Rattle.engine.specs.Engine.{engine_of};
 ghost use Rattle.report.specs.Counters.{trivial_move_of, outcome_of};
 ghost use Rattle.snapshot.specs.Snapshot.{snapshot_of, snapshot_refusal};
-ghost use Rattle.state.specs.State.{answered};
-ghost use Rattle.state_words.specs.StateWords.{no_such_case, state_in, gated, refusal_of, words_after};
+ghost use Rattle.state_words.specs.StateWords.{state_in, gated, refusal_of, words_after};
 ghost use Rattle.answer_words.specs.AnswerWords.{answer_fault, reading_words, mode_or, pacing_refusal, pacing_after, figures_or};
-ghost use Rattle.coinhamper.specs.Governed.{vector_of, sample_of, engine_sample_of, read_amp_of, fresh_refusal, fresh_after, chosen_by, focused_by};
+ghost use Rattle.coinhamper.specs.Governed.{vector_of, sample_of, engine_sample_of, read_amp_of, fresh_refusal, fresh_after, kind_by, chosen_by, focused_by};
 
 use answer_words::answer;
 use kinds::kind::CandidateKind;
 use kinds::vector::PressureVector;
 use pressure::PressureSample;
-use state::{GovernorState, Observed};
 use state_words::{
     NO_SUCH_CASE, NOT_A_STATE, STATE_WORDS, focus_good, focus_of, gate, keep, state_in,
 };
@@ -94,35 +92,15 @@ pub extern "C" fn coinhamper_observe_engine(
 }
 
 // Kinds are 1 L0, 2 a batch of a level, 3 a move of a level.
-fn chosen(s: GovernorState, kind: u64, level: u32, batch_len: u64) -> Observed
-    ensures { result ≡ chosen_by s kind level batch_len }
+#[tactic(auto, unfolding(crate::specs::Governed::kind_by))]
+fn kind_of(kind: u64, level: u32, batch_len: u64) -> Option<CandidateKind>
+    ensures { result ≡ kind_by kind level batch_len }
 {
     match kind {
-        1 => accepted(report::record_candidate_chosen(s, CandidateKind::L0)),
-        2 => accepted(report::record_candidate_chosen(
-            s,
-            CandidateKind::LevelBatch { level, batch_len },
-        )),
-        3 => accepted(report::record_candidate_chosen(s, CandidateKind::TrivialMove { level })),
-        _ => no_such_case(s),
-    }
-}
-
-fn accepted(state: GovernorState) -> Observed
-    ensures { result ≡ answered none state state }
-{
-    Observed {
-        refusal: refusals::NONE,
-        state,
-    }
-}
-
-fn no_such_case(state: GovernorState) -> Observed
-    ensures { result ≡ answered no_such_case state state }
-{
-    Observed {
-        refusal: NO_SUCH_CASE,
-        state,
+        1 => Some(CandidateKind::L0),
+        2 => Some(CandidateKind::LevelBatch { level, batch_len }),
+        3 => Some(CandidateKind::TrivialMove { level }),
+        _ => None,
     }
 }
 
@@ -136,8 +114,15 @@ pub extern "C" fn coinhamper_record_candidate_chosen(
     ensures value { result ≡ refusal_of state.old (chosen_by (state_in state.old) kind level batch_len) }
     ensures state_after { state.new ≡ words_after state.old (chosen_by (state_in state.old) kind level batch_len) }
 {
-    let o = chosen(state_in(&*state), kind, level, batch_len);
-    keep(state, o)
+    let s = state_in(&*state);
+    match kind_of(kind, level, batch_len) {
+        Some(chosen) => keep(
+            state,
+            refusals::NONE,
+            report::record_candidate_chosen(s, chosen),
+        ),
+        None => keep(state, NO_SUCH_CASE, s),
+    }
 }
 
 #[unsafe(no_mangle)]
@@ -145,8 +130,9 @@ pub extern "C" fn coinhamper_record_trivial_move(state: &mut [u64], bytes_avoide
     ensures value { result ≡ refusal_of state.old (trivial_move_of (state_in state.old) bytes_avoided) }
     ensures state_after { state.new ≡ words_after state.old (trivial_move_of (state_in state.old) bytes_avoided) }
 {
-    let o = report::with_trivial_move(state_in(&*state), bytes_avoided);
-    keep(state, o)
+    let s = state_in(&*state);
+    let moved = report::with_trivial_move(s, bytes_avoided);
+    keep(state, refusals::code(moved), moved.unwrap_or(s))
 }
 
 #[unsafe(no_mangle)]
@@ -154,17 +140,9 @@ pub extern "C" fn coinhamper_record_outcome(state: &mut [u64], predicted: u64, a
     ensures value { result ≡ refusal_of state.old (outcome_of (state_in state.old) predicted actual) }
     ensures state_after { state.new ≡ words_after state.old (outcome_of (state_in state.old) predicted actual) }
 {
-    let o = report::with_outcome(state_in(&*state), predicted, actual);
-    keep(state, o)
-}
-
-fn focused(s: GovernorState, flag: u64, level: u32, streak: u32) -> Observed
-    ensures { result ≡ focused_by s flag level streak }
-{
-    if focus_good(flag, level as u64) {
-        return accepted(s.set_focus(focus_of(flag, level, streak)));
-    }
-    no_such_case(s)
+    let s = state_in(&*state);
+    let recorded = report::with_outcome(s, predicted, actual);
+    keep(state, refusals::code(recorded), recorded.unwrap_or(s))
 }
 
 // Flag 0 is no focus, and then the level is 0; flag 1 is a level.
@@ -178,8 +156,12 @@ pub extern "C" fn coinhamper_set_focus(
     ensures value { result ≡ refusal_of state.old (focused_by (state_in state.old) focus_flag focus_level focus_streak) }
     ensures state_after { state.new ≡ words_after state.old (focused_by (state_in state.old) focus_flag focus_level focus_streak) }
 {
-    let o = focused(state_in(&*state), focus_flag, focus_level, focus_streak);
-    keep(state, o)
+    let s = state_in(&*state);
+    if focus_good(focus_flag, focus_level as u64) {
+        let focus = focus_of(focus_flag, focus_level, focus_streak);
+        return keep(state, refusals::NONE, s.set_focus(focus));
+    }
+    keep(state, NO_SUCH_CASE, s)
 }
 
 // Eight words: mode, pressure, the three pressures of the vector, focus flag, focus level, focus streak.
@@ -209,11 +191,7 @@ pub extern "C" fn coinhamper_snapshot(state: &[u64], clock: u64, out: &mut [u64]
 {
     let a = snapshot::snapshot(state_in(state), clock);
     let fourteen = answer_words::snapshot_words(a);
-    answer(
-        out,
-        gate(state, answer_words::snapshot_refusal(a)),
-        &fourteen,
-    )
+    answer(out, gate(state, refusals::code(a)), &fourteen)
 }
 
 // In nanoseconds. Modes are 0 Balanced, 1 ReadProtect, 2 WriteEmergency.

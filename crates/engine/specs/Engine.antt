@@ -7,7 +7,6 @@ use Rattle.arith.specs.Whole.{float_of}
 use Rattle.counts.specs.Counts.{any_large}
 use Rattle.refusals.specs.Refusals.{Check, ◌gives◌, first_fault, bad_state, too_large, counter_full}
 use Rattle.state.specs.declared.GovernorState.{GovernorState}
-use Rattle.state.specs.declared.Observed.{Observed}
 use Rattle.state.specs.declared.Window.{Window}
 use Rattle.pressure.specs.declared.PressureSample.{PressureSample}
 use Rattle.windows.specs.declared.ReadAmpStats.{ReadAmpStats}
@@ -16,7 +15,7 @@ use Rattle.windows.specs.Windows.{probed_sum, resolved_sum, probed_since, resolv
 use Rattle.kinds.specs.Tuning.{Tuning}
 use Rattle.sound.specs.Sound.{sound_of}
 use Rattle.governor.specs.Observe.{counters_full, accepted_of}
-use Rattle.state.specs.State.{answered}
+use Rattle.state.specs.State.{Observed, answered}
 
 -- with no resolved gets the old smoothed value is fed in again
 unfoldable pub per_get : Window → Float → ReadAmpStats → Float

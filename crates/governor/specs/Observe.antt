@@ -4,7 +4,6 @@ use Rattle.std.specs.Prelude.{ℕ, ◌+◌, ◌-◌, ◌^◌, Bool, cond, not, �
 use Rattle.refusals.specs.Refusals.{Check, ◌gives◌, first_fault, bad_state, too_large, counter_full}
 use Rattle.state.specs.declared.GovernorState.{GovernorState}
 use Rattle.state.specs.declared.Counters.{Counters}
-use Rattle.state.specs.declared.Observed.{Observed}
 use Rattle.state.specs.declared.Window.{Window}
 use Rattle.pressure.specs.declared.PressureSample.{PressureSample}
 use Rattle.modes.specs.declared.NextMode.{NextMode}
@@ -15,7 +14,7 @@ use Rattle.modes.specs.Mode.{next_mode_of}
 use Rattle.sound.specs.Sound.{sound_of, differ}
 use Rattle.state.specs.Clock.{time_up_to, times_of}
 use Rattle.counts.specs.Counts.{any_large}
-use Rattle.state.specs.State.{full, answered}
+use Rattle.state.specs.State.{Observed, full, answered}
 
 abbrev pub next_of : Tuning → GovernorState → PressureSample → NextMode
 next_of G s p = next_mode_of G s.mode s.streaks (fraction_of p) p.max_level_debt_ratio (probed_of s.signals p)

@@ -2,13 +2,15 @@
 #![tactic(auto)]
 
 ghost use Rattle.std.specs.Prelude.{◌≡◌, ◌-◌, ◌<◌, ◌^◌, true, false, ◌&&◌};
+ghost use Rattle.refusals.specs.Codes.{code};
 ghost use Rattle.kinds.specs.Tuning.{source};
 ghost use Rattle.state.specs.State.{full};
 ghost use Rattle.governor.specs.Observe.{counters_full, observe_fault, accepted_of, observed_of, next_of, switched_count};
 
 use modes::NextMode;
 use pressure::PressureSample;
-use state::{Counters, GovernorState, Observed, clock};
+use refusals::Refusal;
+use state::{Counters, GovernorState, clock};
 
 // The mode and streaks after the observation.
 fn next(s: GovernorState, p: PressureSample) -> NextMode
@@ -26,19 +28,21 @@ fn next(s: GovernorState, p: PressureSample) -> NextMode
 }
 
 // One more switch would pass the largest u64.
+#[tactic(auto, using(state::specs::Room::full_is))]
 fn switches_full(c: Counters, switched: bool) -> bool
     ensures { result ≡ switched && full c.mode_switches }
 {
-    switched & (c.mode_switches == 0xffff_ffff_ffff_ffff)
+    switched & (c.mode_switches == u64::MAX)
 }
 
+#[tactic(auto, unfolding(crate::specs::Observe::counters_full))]
 fn counters_full(s: GovernorState, now: u64, p: PressureSample) -> bool
     ensures { result ≡ counters_full source s now p }
 {
     let was = s.mode;
     let t = next(s, p);
     let is = t.mode;
-    switches_full(s.counters, sound::are_different(was, is)) | clock::time_full(was, s.times, now)
+    switches_full(s.counters, was != is) | clock::time_full(was, s.times, now)
 }
 
 fn with_switch(mut c: Counters, switched: bool) -> Counters
@@ -52,6 +56,7 @@ fn with_switch(mut c: Counters, switched: bool) -> Counters
 }
 
 // The state after an observation that nothing refuses.
+#[tactic(auto, using(crate::specs::Observe::Room::switch_room), unfolding(crate::specs::Observe::accepted_of))]
 fn after_accepted(s: GovernorState, now: u64, p: PressureSample) -> GovernorState
     requires { counters_full source s now p ≡ false }
     ensures { result ≡ accepted_of source s s.window now p }
@@ -64,7 +69,7 @@ fn after_accepted(s: GovernorState, now: u64, p: PressureSample) -> GovernorStat
     let focus = s.focus;
     let window = s.window;
     let times = clock::times_after(was, s.times, now);
-    let counters = with_switch(s.counters, sound::are_different(was, mode));
+    let counters = with_switch(s.counters, was != mode);
     GovernorState {
         mode,
         signals,
@@ -76,28 +81,30 @@ fn after_accepted(s: GovernorState, now: u64, p: PressureSample) -> GovernorStat
     }
 }
 
-fn observe_fault(s: GovernorState, now: u64, p: PressureSample) -> u64
-    ensures { result ≡ observe_fault source s now p }
+#[tactic(auto, unfolding(crate::specs::Observe::observe_fault))]
+fn observe_fault(s: GovernorState, now: u64, p: PressureSample) -> Result<(), Refusal>
+    ensures { code result ≡ observe_fault source s now p }
 {
     let was = s.mode;
     if !sound::is_sound(was, s.streaks) {
-        return refusals::BAD_STATE;
+        return Err(Refusal::BadState);
     }
     if counts::any_large(p.l0_count, p.l0_write_stall_trigger, p.backlog_levels) {
-        return refusals::TOO_LARGE;
+        return Err(Refusal::TooLarge);
     }
     if counters_full(s, now, p) {
-        return refusals::COUNTER_FULL;
+        return Err(Refusal::CounterFull);
     }
-    refusals::NONE
+    Ok(())
 }
 
-pub fn observe(mut s: GovernorState, now: u64, p: PressureSample) -> Observed
-    ensures { result ≡ observed_of source s now p }
+// A refusal leaves the state as it was.
+#[tactic(auto, using(crate::specs::Observe::Room::counters_room), unfolding(crate::specs::Observe::observed_of))]
+pub fn observe(s: &mut GovernorState, now: u64, p: PressureSample) -> Result<(), Refusal>
+    ensures refusal { code result ≡ (observed_of source s.old now p).refusal }
+    ensures state { s.new ≡ (observed_of source s.old now p).state }
 {
-    let refusal = observe_fault(s, now, p);
-    if refusal == refusals::NONE {
-        s = after_accepted(s, now, p);
-    }
-    Observed { refusal, state: s }
+    observe_fault(*s, now, p)?;
+    *s = after_accepted(*s, now, p);
+    Ok(())
 }

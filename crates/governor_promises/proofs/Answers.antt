@@ -7,14 +7,12 @@ use lib.Dec.{T, eqb, eqb→eq}
 use borrow.Author.Tests.{eqb-true, eq-eqb, ne_eqb}
 use Rattle.refusals.specs.Refusals.{none}
 use Rattle.state.specs.declared.GovernorState.{GovernorState}
-use Rattle.state.specs.declared.Observed.{Observed}
 use Rattle.kinds.specs.Tuning.{Tuning}
 use Rattle.governor.specs.Observe.{observe_fault, accepted_of, observed_of}
-use Rattle.state.specs.State.{answered}
+use Rattle.state.specs.State.{Observed, answered}
 use Rattle.engine.specs.Engine.{engine_fault, window_of, sample_of, engine_of}
 use Rattle.state.specs.Clock.{times_of}
-use Rattle.snapshot.specs.declared.SnapshotAnswer.TheVariants.{Stats, Refused}
-use Rattle.snapshot.specs.Snapshot.{snapshot_fault, stats_of, snapshot_of, snapshot_refusal, figures, snapshot_numbers}
+use Rattle.snapshot.specs.Snapshot.{Stats, Refused, snapshot_fault, stats_of, snapshot_of, snapshot_refusal, figures, snapshot_numbers}
 use Rattle.report.specs.Counters.{move_fault, trivial_move_of, outcome_fault, outcome_of}
 use Rattle.governor_promises.specs.Reading.{Observation, sampled, counted}
 use Rattle.governor_promises.specs.Calls.{Action, observe, move, outcome, choose, focus, snapshot, answer_of, acted}

@@ -7,8 +7,7 @@ use Rattle.kinds.specs.declared.focus.FocusState.{FocusState}
 use Rattle.kinds.specs.declared.kind.CandidateKind.{CandidateKind}
 use Rattle.kinds.specs.Tuning.{Tuning}
 use Rattle.state.specs.declared.GovernorState.{GovernorState}
-use Rattle.state.specs.declared.Observed.{Observed}
-use Rattle.state.specs.State.{focused_of}
+use Rattle.state.specs.State.{Observed, focused_of}
 use Rattle.governor.specs.Observe.{observed_of}
 use Rattle.engine.specs.Engine.{engine_of}
 use Rattle.report.specs.Counters.{chosen_of, trivial_move_of, outcome_of}

@@ -2,25 +2,25 @@
 #![tactic(auto)]
 
 ghost use Rattle.std.specs.Prelude.{◌≡◌};
+ghost use Rattle.refusals.specs.Codes.{code};
 ghost use Rattle.report.specs.Counters.{trivial_move_of, outcome_of};
 
+use refusals::Refusal;
 use report::{with_outcome, with_trivial_move};
 use state::GovernorState;
 
-pub fn record_trivial_move(g: &mut GovernorState, bytes_avoided: u64) -> u64
-    ensures { (g.new ≡ (trivial_move_of g.old bytes_avoided).state) × (result ≡ (trivial_move_of g.old bytes_avoided).refusal) }
+#[tactic(auto, using(state::specs::State::Answered::left), unfolding(report::specs::Counters::trivial_move_of))]
+pub fn record_trivial_move(g: &mut GovernorState, bytes_avoided: u64) -> Result<(), Refusal>
+    ensures { (g.new ≡ (trivial_move_of g.old bytes_avoided).state) × (code result ≡ (trivial_move_of g.old bytes_avoided).refusal) }
 {
-    let s = *g;
-    let o = with_trivial_move(s, bytes_avoided);
-    *g = o.state;
-    o.refusal
+    *g = with_trivial_move(*g, bytes_avoided)?;
+    Ok(())
 }
 
-pub fn record_outcome(g: &mut GovernorState, predicted: u64, actual: u64) -> u64
-    ensures { (g.new ≡ (outcome_of g.old predicted actual).state) × (result ≡ (outcome_of g.old predicted actual).refusal) }
+#[tactic(auto, using(state::specs::State::Answered::left), unfolding(report::specs::Counters::outcome_of))]
+pub fn record_outcome(g: &mut GovernorState, predicted: u64, actual: u64) -> Result<(), Refusal>
+    ensures { (g.new ≡ (outcome_of g.old predicted actual).state) × (code result ≡ (outcome_of g.old predicted actual).refusal) }
 {
-    let s = *g;
-    let o = with_outcome(s, predicted, actual);
-    *g = o.state;
-    o.refusal
+    *g = with_outcome(*g, predicted, actual)?;
+    Ok(())
 }

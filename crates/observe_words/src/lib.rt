@@ -2,6 +2,7 @@
 #![tactic(auto)]
 
 ghost use Rattle.std.specs.Prelude.{◌≡◌, true, false, cond, ◌&&◌, ◌+◌, ◌-◌, ◌^◌, ◌<◌};
+ghost use Rattle.refusals.specs.Codes.{code};
 ghost use Rattle.kinds.specs.Tuning.{source};
 ghost use Rattle.state.specs.State.{full};
 ghost use Rattle.pressure.specs.Pressure.{signals_of};
@@ -15,12 +16,14 @@ use kinds::mode::GovernorMode;
 use kinds::vector::PressureVector;
 use modes::NextMode;
 use pressure::PressureSample;
+use refusals::Refusal;
 use state::clock::{time_full, times_after};
 use state::{Signals, Streaks, Times};
 use state_words::mode_of;
 
 pub mod windowed;
 
+#[tactic(auto, unfolding(state_words::specs::StateWords::state_from))]
 pub(crate) fn streaks_in(words: &[u64]) -> Streaks
     requires { Good words.now }
     ensures { result ≡ (state_from words.now).streaks }
@@ -32,6 +35,7 @@ pub(crate) fn streaks_in(words: &[u64]) -> Streaks
     }
 }
 
+#[tactic(auto, unfolding(state_words::specs::StateWords::state_from, state_words::specs::StateWords::times_in))]
 fn times_in(words: &[u64]) -> Times
     requires { Good words.now }
     ensures { result ≡ (state_from words.now).times }
@@ -69,6 +73,7 @@ fn signals_after(words: &[u64], p: PressureSample, fraction: f64) -> Signals
 }
 
 // The mode and the streaks after the observation.
+#[tactic(auto, unfolding(state_words::specs::StateWords::state_from, state_words::specs::StateWords::signals_in))]
 fn next(words: &[u64], p: PressureSample, fraction: f64) -> NextMode
     requires { Good words.now × (fraction ≡ fraction_of p) }
     ensures { result ≡ next_of source (state_from words.now) p }
@@ -84,38 +89,47 @@ fn next(words: &[u64], p: PressureSample, fraction: f64) -> NextMode
 }
 
 // One more switch would pass the largest u64.
+#[tactic(auto, using(state::specs::Room::full_is))]
 fn switches_full(switches: u64, switched: bool) -> bool
     ensures { result ≡ switched && full switches }
 {
-    switched & (switches == 0xffff_ffff_ffff_ffff)
+    switched & (switches == u64::MAX)
 }
 
+#[tactic(auto, unfolding(crate::specs::ObserveWords::full_at, state_words::specs::StateWords::state_from, state_words::specs::StateWords::counters_in))]
 fn counters_full(words: &[u64], clock: u64, is: GovernorMode) -> bool
     requires { Good words.now }
     ensures { result ≡ full_at (state_from words.now) clock is }
 {
     let was = mode_of(words[1]);
-    switches_full(words[21], sound::are_different(was, is)) | time_full(was, times_in(words), clock)
+    switches_full(words[21], was != is) | time_full(was, times_in(words), clock)
 }
 
 // The mode after the observation is given.
-fn observe_fault(words: &[u64], clock: u64, p: PressureSample, is: GovernorMode) -> u64
+#[tactic(auto, unfolding(governor::specs::Observe::observe_fault, governor::specs::Observe::counters_full, crate::specs::ObserveWords::full_at, state_words::specs::StateWords::state_from))]
+fn observe_fault(
+    words: &[u64],
+    clock: u64,
+    p: PressureSample,
+    is: GovernorMode,
+) -> Result<(), Refusal>
     requires { Good words.now × (is ≡ (next_of source (state_from words.now) p).mode) }
-    ensures { result ≡ observe_fault source (state_from words.now) clock p }
+    ensures { code result ≡ observe_fault source (state_from words.now) clock p }
 {
     if !sound::is_sound(mode_of(words[1]), streaks_in(words)) {
-        return refusals::BAD_STATE;
+        return Err(Refusal::BadState);
     }
     if counts::any_large(p.l0_count, p.l0_write_stall_trigger, p.backlog_levels) {
-        return refusals::TOO_LARGE;
+        return Err(Refusal::TooLarge);
     }
     if counters_full(words, clock, is) {
-        return refusals::COUNTER_FULL;
+        return Err(Refusal::CounterFull);
     }
-    refusals::NONE
+    Ok(())
 }
 
 // Words 1 to 8.
+#[tactic(auto, unfolding(crate::specs::ObserveWords::signal_words))]
 fn signal_words(mode: GovernorMode, g: Signals) -> [u64; 8]
     ensures { result ≡ signal_words mode g }
 {
@@ -132,6 +146,7 @@ fn signal_words(mode: GovernorMode, g: Signals) -> [u64; 8]
 }
 
 // Words 12 to 18.
+#[tactic(auto, unfolding(crate::specs::ObserveWords::time_words))]
 fn time_words(k: Streaks, t: Times) -> [u64; 7]
     ensures { result ≡ time_words k t }
 {
@@ -157,6 +172,7 @@ fn with_switch(switches: u64, switched: bool) -> u64
 }
 
 // The words after an observation that nothing refuses; its L0 fraction, and the mode and the streaks after it, are given.
+#[tactic(auto, using(governor::specs::Observe::Room::switch_room), unfolding(crate::specs::ObserveWords::observed_words, state_words::specs::StateWords::state_from, state_words::specs::StateWords::counters_in))]
 fn put_observed(words: &mut [u64], clock: u64, p: PressureSample, fraction: f64, t: NextMode)
     requires { Good words.old × (counters_full source (state_from words.old) clock p ≡ false) × (t ≡ next_of source (state_from words.old) p) × (fraction ≡ fraction_of p) }
     ensures { words.new ≡ observed_words words.old clock p }
@@ -165,7 +181,7 @@ fn put_observed(words: &mut [u64], clock: u64, p: PressureSample, fraction: f64,
     let is = t.mode;
     let signals = signal_words(is, signals_after(&*words, p, fraction));
     let times = time_words(t.streaks, times_after(was, times_in(&*words), clock));
-    let switches = with_switch(words[21], sound::are_different(was, is));
+    let switches = with_switch(words[21], was != is);
     let errors = floats::to_bits(floats::of_bits(words[26]));
     buffers::put_words(&mut *words, 1, &signals);
     buffers::put_words(&mut *words, 12, &times);
@@ -183,9 +199,8 @@ pub fn observe(words: &mut [u64], clock: u64, p: PressureSample) -> u64
     let fraction = pressure::l0_fraction(p);
     let t = next(&*words, p, fraction);
     let is = t.mode;
-    let fault = observe_fault(&*words, clock, p, is);
-    if fault != refusals::NONE {
-        return fault;
+    if let Err(refusal) = observe_fault(&*words, clock, p, is) {
+        return u64::from(refusal);
     }
     put_observed(words, clock, p, fraction, t);
     refusals::NONE

@@ -4,10 +4,9 @@ pub mod Steps
 use Rattle.std.specs.Prelude.{Option, Some, None, ℕ, suc, ◌≤◌, ◌≡◌, cond, List, [], ◌∷◌, ◌++◌, length, take, drop, ltb, eqb}
 use Rattle.refusals.specs.Refusals.{◌gives◌, first_fault, none, bad_record, no_room}
 use Rattle.state.specs.declared.GovernorState.{GovernorState}
-use Rattle.state.specs.declared.Observed.{Observed}
 use Rattle.kinds.specs.Tuning.{source}
 use Rattle.kinds.specs.Numbers.{mode_number, dominant_number}
-use Rattle.state.specs.State.{fresh_of}
+use Rattle.state.specs.State.{Observed, fresh_of}
 use Rattle.governor.specs.Observe.{observed_of}
 use Rattle.pressure.specs.Pacing.{pacing_of}
 use Rattle.kinds.specs.Vector.{dominant_of}

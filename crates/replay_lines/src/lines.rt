@@ -1,38 +1,19 @@
 // What a line does to the governor.
 ghost use Rattle.std.specs.Prelude.{◌≡◌};
-ghost use Rattle.state.specs.State.{fresh_of};
+ghost use Rattle.refusals.specs.Codes.{code};
 ghost use Rattle.replay_lines.specs.Replay.{observe_line};
 
+use refusals::Refusal;
 use replay_fields::Observation;
-use state::{GovernorState, Observed};
+use state::GovernorState;
 
 // A line that is no observation counts as refusal 5, and leaves the state as it was.
-fn unchanged(s: GovernorState) -> Observed
-    ensures { result ≡ observe_line s None }
-{
-    Observed {
-        refusal: refusals::BAD_RECORD,
-        state: s,
-    }
-}
-
-// What a line makes of the governor that the last one left.
-pub(crate) fn observe_line(o: Observed, line: Option<Observation>) -> Observed
-    ensures { result ≡ observe_line o.state line }
+pub(crate) fn observe_line(s: &mut GovernorState, line: Option<Observation>) -> Result<(), Refusal>
+    ensures refusal { code result ≡ (observe_line s.old line).refusal }
+    ensures state { s.new ≡ (observe_line s.old line).state }
 {
     match line {
-        Some(seen) => governor::observe(o.state, seen.now, seen.sample),
-        None => unchanged(o.state),
-    }
-}
-
-// The governor before the first line.
-pub(crate) fn begun() -> Observed
-    ensures { result.state ≡ fresh_of 0 }
-{
-    let state = state::fresh(0);
-    Observed {
-        refusal: refusals::NONE,
-        state,
+        Some(seen) => governor::observe(s, seen.now, seen.sample),
+        None => Err(Refusal::BadRecord),
     }
 }

@@ -7,11 +7,11 @@ ghost use Rattle.replay_text.specs.Lines.{LF, comma, lines_of};
 ghost use Rattle.text_writers.specs.Rows.{row_of};
 ghost use Rattle.replay_lines.specs.Replay.{printed, replay_from, replayed_of, replay_out, Counts};
 
-use crate::lines::{begun, observe_line};
+use crate::lines::observe_line;
 use refusals::Refusal;
 use replay_fields::line_of;
 use replay_text::reader::{COMMA, LF, Lines};
-use state::Observed;
+use state::GovernorState;
 use text_writers::put_row;
 
 // The most bytes that are read; given more, nothing is printed.
@@ -32,14 +32,13 @@ pub fn output_room() -> [u8; 1179648]
 }
 
 // The numbers that a line prints: its own, refusal, mode, dominant, delay.
-fn line_numbers(number: u64, o: Observed) -> [u64; 5]
-    ensures { (5 ≡ length result) × (row_of comma LF result ≡ printed number o) }
+fn line_numbers(number: u64, refusal: u64, s: GovernorState) -> [u64; 5]
+    ensures { (5 ≡ length result) × (row_of comma LF result ≡ printed number (record { refusal = refusal; state = s })) }
 {
-    let s = o.state;
     let mode = s.mode();
     let dominant = s.pressure_vector().dominant();
     let delay = pressure::pacing::pacing_delay(mode, s.pressure());
-    [number, o.refusal, mode.idx(), u64::from(dominant), delay]
+    [number, refusal, mode.idx(), u64::from(dominant), delay]
 }
 
 // Writes the whole output as far as the buffer goes, and answers its length.
@@ -47,13 +46,13 @@ fn run(text: &[u8], out: &mut [u8]) -> usize
     requires { length text.now ≤ 65536 }
     ensures { Filled out.old 0 (replay_from (fresh_of 0) 1 (lines_of text.now)) out.new result }
 {
-    let mut o = begun();
+    let mut s = state::fresh(0);
     // Counted beside the lines: `enumerate` gives a usize from 0, and would be no plainer.
     let mut number: u64 = 1;
     let mut at: usize = 0;
     for line in Lines::of(text) {
-        o = observe_line(o, line_of(line));
-        at += put_row(out, at, &line_numbers(number, o), COMMA, LF);
+        let told = refusals::code(observe_line(&mut s, line_of(line)));
+        at += put_row(out, at, &line_numbers(number, told, s), COMMA, LF);
         number += 1;
     }
     at

@@ -8,10 +8,9 @@ use Rattle.counts.specs.Counts.{large, saturating_add}
 use Rattle.refusals.specs.Refusals.{Check, ◌gives◌, first_fault, too_large, counter_full}
 use Rattle.state.specs.declared.GovernorState.{GovernorState}
 use Rattle.state.specs.declared.Counters.{Counters}
-use Rattle.state.specs.declared.Observed.{Observed}
 use Rattle.kinds.specs.declared.kind.CandidateKind.{CandidateKind}
 use Rattle.kinds.specs.declared.kind.CandidateKind.TheVariants.{L0, LevelBatch, TrivialMove}
-use Rattle.state.specs.State.{full, answered}
+use Rattle.state.specs.State.{Observed, full, answered}
 
 abbrev pub counted_in : GovernorState → Counters → GovernorState
 counted_in s c =

@@ -1,17 +1,16 @@
 // The calls of kinds, state, pressure, governor, engine, report and snapshot.
 #![tactic(auto)]
 
-mod lending;
-
 use arith::floats;
 use kinds::kind::CandidateKind;
 use pressure::{PressureSample, pacing};
+use refusals::Refusal;
 use rows_state::states;
 use rows_state::states::float;
 use rows_words::words;
 use rows_words::words::{SHORT, WORDS, word};
-use snapshot::{GovernorStats, SnapshotAnswer};
-use state::{GovernorState, Observed};
+use snapshot::GovernorStats;
+use state::GovernorState;
 use windows::{EngineSample, ReadAmpStats};
 
 fn kind_of(kind: u64, level: u32, batch_len: u64) -> CandidateKind {
@@ -51,35 +50,40 @@ fn read_amp(args: &[u64; WORDS]) -> ReadAmpStats {
     }
 }
 
-fn kept(state: GovernorState) -> Observed {
-    Observed { refusal: 0, state }
-}
-
 // The call that reports what was done.
-fn reported(call: u64, s: GovernorState, n: u64, m: u64) -> Observed {
+fn reported(call: u64, s: &mut GovernorState, n: u64, m: u64) -> Result<(), Refusal> {
     match call {
-        41 => report::with_trivial_move(s, n),
-        42 => report::with_outcome(s, n, m),
-        43 => lending::moved(s, n),
-        _ => lending::outcome(s, n, m),
+        41 => {
+            *s = report::with_trivial_move(*s, n)?;
+        }
+        42 => {
+            *s = report::with_outcome(*s, n, m)?;
+        }
+        43 => lent::record_trivial_move(s, n)?,
+        _ => lent::record_outcome(s, n, m)?,
     }
+    Ok(())
 }
 
 // The call that answers a state, and a refusal or none.
-fn observed(call: u64, args: &[u64; WORDS]) -> Observed {
-    let s = states::state(args);
+fn observe(call: u64, args: &[u64; WORDS], s: &mut GovernorState) -> Result<(), Refusal> {
     let n = word(args, 28);
     match call {
-        36 => kept(state::fresh(word(args, 0))),
-        37 => kept(s.set_focus(states::focus_at(args, 28))),
+        36 => {
+            *s = state::fresh(word(args, 0));
+        }
+        37 => {
+            *s = s.set_focus(states::focus_at(args, 28));
+        }
         38 => {
             let kind = kind_of(n, states::small(args, 29), word(args, 30));
-            kept(report::record_candidate_chosen(s, kind))
+            *s = report::record_candidate_chosen(*s, kind);
         }
-        39 => governor::observe(s, n, sample(args)),
-        40 => engine::observe_engine(s, n, engine_sample(args), read_amp(args)),
-        _ => reported(call, s, n, word(args, 29)),
+        39 => governor::observe(s, n, sample(args))?,
+        40 => engine::observe_engine(s, n, engine_sample(args), read_amp(args))?,
+        _ => reported(call, s, n, word(args, 29))?,
     }
+    Ok(())
 }
 
 // The call that answers a number or three.
@@ -122,16 +126,16 @@ fn stats_words(g: GovernorStats) -> [u64; 14] {
 
 fn snapshot_told(args: &[u64; WORDS]) -> [u64; SHORT] {
     match snapshot::snapshot(states::state(args), word(args, 28)) {
-        SnapshotAnswer::Stats(g) => words::told(&[0], &stats_words(g)),
-        SnapshotAnswer::Refused(refusal) => words::told(&[refusal], &[]),
+        Ok(g) => words::told(&[0], &stats_words(g)),
+        Err(refusal) => words::told(&[u64::from(refusal)], &[]),
     }
 }
 
 fn state_told(call: u64, args: &[u64; WORDS]) -> [u64; SHORT] {
-    let o = observed(call, args);
-    let head = [o.refusal];
+    let mut s = states::state(args);
+    let head = [refusals::code(observe(call, args, &mut s))];
     let n = ((38 < call) as usize).min(1);
-    words::told(&head[0..n], &states::state_words(o.state))
+    words::told(&head[0..n], &states::state_words(s))
 }
 
 pub fn answer(call: u64, args: &[u64; WORDS]) -> [u64; SHORT] {

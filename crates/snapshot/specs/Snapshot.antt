@@ -1,4 +1,5 @@
 -- The twelve figures of a snapshot, whole milliseconds in its times. Definitions only.
+pub mod Answered
 use Rattle.std.specs.Prelude.{ℕ, ◌-◌, ◌/◌, ◌^◌, cond, List, [], ◌∷◌, ltb, eqb, Float}
 use Rattle.std.specs.Float.{binary64}
 use Rattle.std.specs.Float.Ieee.{to_bits, div}
@@ -9,8 +10,6 @@ use Rattle.kinds.specs.Numbers.{mode_number}
 use Rattle.state.specs.declared.GovernorState.{GovernorState}
 use Rattle.state.specs.declared.Times.{Times}
 use Rattle.snapshot.specs.declared.GovernorStats.{GovernorStats}
-use Rattle.snapshot.specs.declared.SnapshotAnswer.{SnapshotAnswer}
-use Rattle.snapshot.specs.declared.SnapshotAnswer.TheVariants.{Stats, Refused}
 use Rattle.arith.specs.Floats.{f0}
 use Rattle.state.specs.Clock.{time_up_to, times_of}
 
@@ -43,6 +42,11 @@ stats_of s t =
       predicted_actual_samples = s.counters.predicted_actual_samples;
       predicted_actual_mean_abs_pct_error = mean_of s.counters.predicted_actual_abs_pct_error_sum s.counters.predicted_actual_samples;
     }
+
+-- the figures, or the refusal's number alone
+pub data SnapshotAnswer : Type 0 where
+  Stats : GovernorStats → SnapshotAnswer
+  Refused : ℕ → SnapshotAnswer
 
 -- the present mode's time is up to the reading, in the answer only
 unfoldable pub snapshot_of : GovernorState → ℕ → SnapshotAnswer

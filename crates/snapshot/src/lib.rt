@@ -1,11 +1,13 @@
 // The governor's figures at a clock reading.
 #![tactic(auto)]
 
-ghost use Rattle.std.specs.Prelude.{◌≡◌};
-ghost use Rattle.snapshot.specs.Snapshot.{mean_of, stats_of, snapshot_fault, snapshot_of};
+ghost use Rattle.std.specs.Prelude.{◌≡◌, IfOk};
+ghost use Rattle.refusals.specs.Codes.{code};
+ghost use Rattle.snapshot.specs.Snapshot.{Stats, mean_of, stats_of, snapshot_fault, snapshot_of, snapshot_refusal};
 
 use kinds::mode::GovernorMode;
 use kinds::vector::PressureVector;
+use refusals::Refusal;
 use state::{GovernorState, Times, clock};
 
 #[derive(Clone, Copy)]
@@ -22,12 +24,6 @@ pub struct GovernorStats {
     pub trivial_move_bytes_avoided: u64,
     pub predicted_actual_samples: u64,
     pub predicted_actual_mean_abs_pct_error: f64,
-}
-
-#[derive(Clone, Copy)]
-pub enum SnapshotAnswer {
-    Stats(GovernorStats),
-    Refused(u64),
 }
 
 fn mean(sum: f64, count: u64) -> f64
@@ -66,30 +62,30 @@ fn stats(s: GovernorState, t: Times) -> GovernorStats
     }
 }
 
-fn snapshot_fault(s: GovernorState, now: u64) -> u64
-    ensures { result ≡ snapshot_fault s now }
+#[tactic(auto, unfolding(crate::specs::Snapshot::snapshot_fault))]
+fn snapshot_fault(s: GovernorState, now: u64) -> Result<(), Refusal>
+    ensures { code result ≡ snapshot_fault s now }
 {
     if counts::any_large(
         s.counters.batch_size_sum,
         s.counters.batch_size_count,
         s.counters.predicted_actual_samples,
     ) {
-        return refusals::TOO_LARGE;
+        return Err(Refusal::TooLarge);
     }
     let mode = s.mode;
     if clock::time_full(mode, s.times, now) {
-        return refusals::COUNTER_FULL;
+        return Err(Refusal::CounterFull);
     }
-    refusals::NONE
+    Ok(())
 }
 
-pub fn snapshot(s: GovernorState, now: u64) -> SnapshotAnswer
-    ensures { result ≡ snapshot_of s now }
+#[tactic(auto, unfolding(crate::specs::Snapshot::snapshot_of))]
+pub fn snapshot(s: GovernorState, now: u64) -> Result<GovernorStats, Refusal>
+    ensures refusal { code result ≡ snapshot_refusal (snapshot_of s now) }
+    ensures figures { IfOk result (λ t. Stats t ≡ snapshot_of s now) }
 {
-    let refusal = snapshot_fault(s, now);
-    if refusal == refusals::NONE {
-        let mode = s.mode;
-        return SnapshotAnswer::Stats(stats(s, clock::times_after(mode, s.times, now)));
-    }
-    SnapshotAnswer::Refused(refusal)
+    snapshot_fault(s, now)?;
+    let mode = s.mode;
+    Ok(stats(s, clock::times_after(mode, s.times, now)))
 }

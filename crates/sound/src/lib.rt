@@ -18,6 +18,7 @@ fn only_own_streak(window: u32, streak: u32, a: u32, b: u32) -> bool
     (streak < window) & ((a == 0) & (b == 0))
 }
 
+#[tactic(auto, unfolding(crate::specs::Sound::sound_of))]
 pub fn is_sound(mode: GovernorMode, k: Streaks) -> bool
     ensures { result ≡ sound_of source mode k }
 {
@@ -49,8 +50,9 @@ pub fn is_sound(mode: GovernorMode, k: Streaks) -> bool
     }
 }
 
+#[tactic(auto, unfolding(crate::specs::Sound::differ))]
 pub fn are_different(a: GovernorMode, b: GovernorMode) -> bool
     ensures { result ≡ differ a b }
 {
-    a.idx() != b.idx()
+    a != b
 }

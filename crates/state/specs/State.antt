@@ -1,11 +1,16 @@
 -- A fresh state, and a state with another focus; a counter that cannot go up, and what a call that may be refused answers. Definitions only.
+pub mod Answered
 use Rattle.std.specs.Prelude.{ℕ, ◌+◌, ◌-◌, ◌^◌, Bool, cond, ltb, eqb, None}
 use Rattle.refusals.specs.Refusals.{none}
 use Rattle.state.specs.declared.GovernorState.{GovernorState}
-use Rattle.state.specs.declared.Observed.{Observed}
 use Rattle.kinds.specs.declared.mode.GovernorMode.TheVariants.{Balanced}
 use Rattle.kinds.specs.declared.focus.FocusState.{FocusState}
 use Rattle.arith.specs.Floats.{f0}
+
+-- what a call that may be refused answers: its number, and the state after it, which is the old one where it is refused
+pub record Observed : Type 0 where
+  pub refusal : ℕ
+  pub state : GovernorState
 
 -- a counter that cannot go up
 abbrev pub full : ℕ → Bool

@@ -3,29 +3,20 @@ ghost use Rattle.std.specs.Prelude.{◌≡◌, ◌-◌, ◌^◌, ltb};
 ghost use Rattle.state.specs.Clock.{elapsed_of, kept_of, time_in, time_up_to, times_of};
 
 use crate::Times;
-use counts::saturating_add;
 use kinds::mode::GovernorMode;
 
 // Time since the kept reading; none if the clock went back.
 fn elapsed(t: Times, now: u64) -> u64
     ensures { result ≡ elapsed_of t now }
 {
-    let last = t.last_transition;
-    if now < last {
-        return 0;
-    }
-    now - last
+    now.saturating_sub(t.last_transition)
 }
 
 // The larger of the two readings.
 fn kept(t: Times, now: u64) -> u64
     ensures { result ≡ kept_of t now }
 {
-    let last = t.last_transition;
-    if last < now {
-        return now;
-    }
-    last
+    t.last_transition.max(now)
 }
 
 fn time_in(mode: GovernorMode, t: Times) -> u64
@@ -42,10 +33,11 @@ fn time_in(mode: GovernorMode, t: Times) -> u64
 pub fn time_full(mode: GovernorMode, t: Times, now: u64) -> bool
     ensures { result ≡ ltb (2 ^ 64 - 1) (time_up_to mode t now) }
 {
-    0xffff_ffff_ffff_ffff - time_in(mode, t) < elapsed(t, now)
+    u64::MAX - time_in(mode, t) < elapsed(t, now)
 }
 
 // A time stops at the largest u64; no call that is accepted comes there.
+#[tactic(auto, unfolding(crate::specs::Clock::times_of))]
 pub fn times_after(mode: GovernorMode, mut t: Times, now: u64) -> Times
     ensures { result ≡ times_of mode t now }
 {
@@ -54,13 +46,13 @@ pub fn times_after(mode: GovernorMode, mut t: Times, now: u64) -> Times
     t.last_transition = reading;
     match mode {
         GovernorMode::Balanced => {
-            t.balanced = saturating_add(t.balanced, spent);
+            t.balanced = t.balanced.saturating_add(spent);
         }
         GovernorMode::ReadProtect => {
-            t.read_protect = saturating_add(t.read_protect, spent);
+            t.read_protect = t.read_protect.saturating_add(spent);
         }
         GovernorMode::WriteEmergency => {
-            t.write_emergency = saturating_add(t.write_emergency, spent);
+            t.write_emergency = t.write_emergency.saturating_add(spent);
         }
     }
     t

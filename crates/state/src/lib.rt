@@ -63,13 +63,6 @@ pub struct GovernorState {
     pub counters: Counters,
 }
 
-// What a call that may be refused answers: its number, and the state after it, which is the old one where it is refused.
-#[derive(Clone, Copy)]
-pub struct Observed {
-    pub refusal: u64,
-    pub state: GovernorState,
-}
-
 // A governor that has seen nothing, its clock at a reading.
 pub fn fresh(clock: u64) -> GovernorState
     ensures { result ≡ fresh_of clock }

@@ -16,8 +16,7 @@ use Rattle.state.specs.declared.Streaks.{Streaks}
 use Rattle.state.specs.declared.Times.{Times}
 use Rattle.state.specs.declared.Counters.{Counters}
 use Rattle.state.specs.declared.GovernorState.{GovernorState}
-use Rattle.state.specs.declared.Observed.{Observed}
-use Rattle.state.specs.State.{fresh_of}
+use Rattle.state.specs.State.{Observed, fresh_of}
 
 abbrev pub version : ℕ
 version = 1

@@ -9,7 +9,7 @@ use arith::floats;
 use kinds::focus::FocusState;
 use kinds::mode::GovernorMode;
 use kinds::vector::PressureVector;
-use state::{Counters, GovernorState, Observed, Signals, Streaks, Times, Window};
+use state::{Counters, GovernorState, Signals, Streaks, Times, Window};
 
 // Counts up whenever a signature, the layout of the words or what a number means changes.
 pub const VERSION: u64 = 1;
@@ -240,16 +240,15 @@ pub fn gate(words: &[u64], refusal: u64) -> u64
 }
 
 // The words of the state that a call answers, unless it is refused or the words were none.
-pub fn keep(words: &mut [u64], o: Observed) -> u64
-    ensures value { result ≡ refusal_of words.old o }
-    ensures words_after { words.new ≡ words_after words.old o }
+pub fn keep(words: &mut [u64], refusal: u64, state: GovernorState) -> u64
+    ensures value { result ≡ refusal_of words.old (record { refusal = refusal; state = state }) }
+    ensures words_after { words.new ≡ words_after words.old (record { refusal = refusal; state = state }) }
 {
-    let refusal = gate(&*words, o.refusal);
-    if refusal != refusals::NONE {
-        return refusal;
+    let told = gate(&*words, refusal);
+    if told != refusals::NONE {
+        return told;
     }
-    let s = o.state;
-    let all = to_words(s);
+    let all = to_words(state);
     buffers::put_words(words, 0, &all);
     refusals::NONE
 }

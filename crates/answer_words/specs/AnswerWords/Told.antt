@@ -3,8 +3,7 @@ use Rattle.std.specs.Prelude.{◌≡◌, refl, ℕ, cond, List, length, eqb}
 use Rattle.std.proofs.Common.{◌∙◌}
 use Rattle.refusals.specs.Refusals.{none}
 use Rattle.refusals.specs.Written.{written_out}
-use Rattle.snapshot.specs.declared.SnapshotAnswer.{SnapshotAnswer}
-use Rattle.snapshot.specs.declared.SnapshotAnswer.TheVariants.{Stats, Refused}
+use Rattle.snapshot.specs.Snapshot.{SnapshotAnswer, Stats, Refused}
 use Rattle.answer_words.specs.AnswerWords.{answer_fault, figures_or}
 
 pub told : (refusal says : ℕ) (words are : List ℕ) (n : ℕ) (out new : List ℕ) (r : ℕ) → refusal ≡ says → words ≡ are → length are ≡ n

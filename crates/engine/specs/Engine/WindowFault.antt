@@ -10,7 +10,7 @@ use Rattle.kinds.specs.Tuning.{Tuning}
 use Rattle.sound.specs.Sound.{sound_of}
 use Rattle.state.specs.declared.Window.{Window}
 use Rattle.state.specs.declared.GovernorState.{GovernorState}
-use Rattle.state.specs.declared.Observed.{Observed}
+use Rattle.state.specs.State.{Observed}
 use Rattle.governor.specs.Observe.{counters_full, observe_fault, accepted_of, observed_of}
 use Rattle.windows.specs.declared.EngineSample.{EngineSample}
 use Rattle.windows.specs.declared.ReadAmpStats.{ReadAmpStats}

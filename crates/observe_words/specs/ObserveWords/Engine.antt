@@ -7,7 +7,7 @@ use borrow.Author.Tests.{eq-eqb, ne_eqb}
 use Rattle.refusals.specs.Refusals.{none}
 use Rattle.kinds.specs.Tuning.{source}
 use Rattle.state.specs.declared.GovernorState.{GovernorState}
-use Rattle.state.specs.declared.Observed.{Observed}
+use Rattle.state.specs.State.{Observed}
 use Rattle.state.specs.declared.Window.{Window}
 use Rattle.governor.specs.Observe.{observed_of}
 use Rattle.windows.specs.declared.EngineSample.{EngineSample}

@@ -1,7 +1,9 @@
 -- They are the words of the state after the observation, so that the call on words is the call on the state in them.
-use Rattle.std.specs.Prelude.{◌≡◌, refl, ℕ, zero, suc, ◌+◌, Bool, true, false, not, List, [], ◌∷◌, length, drop, get_or}
+use Rattle.std.specs.Prelude.{◌≡◌, refl, ℕ, zero, suc, ◌+◌, Bool, true, false, not, List, [], ◌∷◌, length, drop, get_or, Result, Ok, Err}
 use Rattle.std.proofs.Common.{ap, ◌∙◌, arith, drop_of_length-le, drop-cons}
 use borrow.Author.Tests.{ne_eqb}
+use Rattle.refusals.specs.declared.Refusal.{Refusal}
+use Rattle.refusals.specs.Codes.{code}
 use Rattle.refusals.specs.Refusals.{none, ◌gives◌, first_fault, bad_state, too_large, counter_full}
 use Rattle.counts.specs.Counts.{any_large}
 use Rattle.sound.specs.Sound.{sound_of}
@@ -12,6 +14,11 @@ use Rattle.governor.specs.Observe.{observe_fault, counters_full, accepted_of, ob
 use Rattle.state_words.specs.StateWords.{is_state, state_from, state_in, state_words, counters_in, gated, refusal_of, words_after}
 use Rattle.state_words.specs.StateWords.Kept.{kept}
 use Rattle.observe_words.specs.ObserveWords.{signal_words, time_words, overlaid, observed_words}
+
+-- an answer that is no refusal tells none
+pub told_none : {A : Type 0} (r : Result A Refusal) → ((e : Refusal) → r ≡ Err e → ⊥) → code r ≡ none
+told_none (Ok a) n = refl
+told_none (Err e) n = absurd (n e refl)
 
 -- n words from i on
 unfoldable words_from : List ℕ → ℕ → ℕ → List ℕ

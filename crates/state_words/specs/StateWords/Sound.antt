@@ -5,7 +5,7 @@ use Rattle.std.proofs.lemmas.List.Edits.{sets}
 use Rattle.lists.specs.Writes.{sets_front}
 use Rattle.refusals.specs.Refusals.{none}
 use Rattle.state.specs.declared.GovernorState.{GovernorState}
-use Rattle.state.specs.declared.Observed.{Observed}
+use Rattle.state.specs.State.{Observed}
 use Rattle.state_words.specs.StateWords.{tag, not_a_state, small, focus_good, is_state, Good, state_words, gated, refusal_of, words_after}
 
 pub both : {a b : Bool} → (a && b) ≡ true → (a ≡ true) × (b ≡ true)

@@ -8,8 +8,8 @@ use Rattle.replay_lines.proofs.run.run.Goals as goal
 
 pub overflow_add-at : goal.overflow_add-at
 overflow_add-at c = let n = c.line_numbers in
-    let w = rw (take_all 1024 n.result (omega (arith, n.ensures.0)), n.ensures.1, c.observe_line-o.ensures) at c.put_row-at.ensures in
-    let f = printed-few c.loop-line.number c.loop-line.o.state c.line_of.result (omega (arith, ap length c.in-Some.ensures.steps, lines-few c.args.text.now, c.loop-line.invariant.0, c.requires)) in
+    let w = rw (take_all 1024 n.result (omega (arith, n.ensures.0)), n.ensures.1, c.code-told.ensures, c.observe_line.ensures.refusal, c.observe_line.ensures.state) at c.put_row-at.ensures in
+    let f = printed-few c.loop-line.number c.loop-line.s c.line_of.result (omega (arith, ap length c.in-Some.ensures.steps, lines-few c.args.text.now, c.loop-line.invariant.0, c.requires)) in
     omega (arith, w.ends, f, ap length c.in-Some.ensures.steps, lines-few c.args.text.now, c.loop-line.invariant, c.requires)
 
 pub overflow_add-number : goal.overflow_add-number
@@ -19,13 +19,13 @@ pub loop-line-preserved : goal.loop-line-preserved
 loop-line-preserved c = let l = c.loop-line in
     let s = c.in-Some.ensures.steps in
     let n = c.line_numbers in
-    let w = rw (take_all 1024 n.result (omega (arith, n.ensures.0)), n.ensures.1, c.observe_line-o.ensures) at c.put_row-at.ensures in
-    let f = printed-few l.number l.o.state c.line_of.result (omega (arith, ap length s, lines-few c.args.text.now, l.invariant.0, c.requires)) in
-    let e = replay_more l.o.state l.number _ _ _ s in (
+    let w = rw (take_all 1024 n.result (omega (arith, n.ensures.0)), n.ensures.1, c.code-told.ensures, c.observe_line.ensures.refusal, c.observe_line.ensures.state) at c.put_row-at.ensures in
+    let f = printed-few l.number l.s c.line_of.result (omega (arith, ap length s, lines-few c.args.text.now, l.invariant.0, c.requires)) in
+    let e = replay_more l.s l.number _ _ _ s in (
       omega (arith, ap length s, l.invariant.0),
       omega (arith, l.invariant.1, w.ends, f),
-      fill-part _ _ _ _ _ _ _ _ _ (rw (c.observe_line-o.ensures, c.line_of.ensures, ← e) l.invariant.2) (rw c.line_of.ensures at w),
+      fill-part _ _ _ _ _ _ _ _ _ (rw (c.observe_line.ensures.state, c.line_of.ensures, ← e) l.invariant.2) (rw c.line_of.ensures at w),
     )
 
 pub returns : goal.returns
-returns c = fill_end _ _ _ _ _ (rw (replay_end c.loop-line.o.state c.loop-line.number _ c.in-None.ensures.steps.0) at c.loop-line.invariant.2)
+returns c = fill_end _ _ _ _ _ (rw (replay_end c.loop-line.s c.loop-line.number _ c.in-None.ensures.steps.0) at c.loop-line.invariant.2)

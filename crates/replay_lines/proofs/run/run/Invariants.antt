@@ -10,4 +10,4 @@ use Rattle.replay_lines.proofs.run.run.Given as goal
 abbrev pub invariant-loop-line : goal.invariant-loop-line
 invariant-loop-line l = (l.number + length (lines_left l.line-iterator) ≡ length (lines_of l.text) + 1)
     × (l.at + 18 ≤ 18 * l.number)
-    × Filling l.initial.out 0 (replay_from (fresh_of 0) 1 (lines_of l.text)) l.out l.at (replay_from l.o.state l.number (lines_left l.line-iterator))
+    × Filling l.initial.out 0 (replay_from (fresh_of 0) 1 (lines_of l.text)) l.out l.at (replay_from l.s l.number (lines_left l.line-iterator))
