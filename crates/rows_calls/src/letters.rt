@@ -24,9 +24,9 @@ fn is_number(letter: u8, n: u64) -> bool {
 // Each number of the list is as its letter says, from the last letter on as that one.
 fn are_numbers(letters: &[u8], list: &[u64]) -> bool {
     let last = letters.len().saturating_sub(1);
-    list.iter()
-        .enumerate()
-        .all(|(i, n)| is_number(words::byte(letters, i.min(last)), *n))
+    list.iter().enumerate().all(|(i, n)| letters
+        .get(i.min(last))
+        .is_some_and(|letter| is_number(*letter, *n)))
 }
 
 // A list of a letter: one to write to, a state, a decision, bytes, or any words.

@@ -14,8 +14,8 @@ fn generated(
     numbers: &mut [u64],
     last: usize,
 ) -> Generated {
-    let second = words::after(args, 0, 1);
-    let trigger = words::after(args, second, 1);
+    let second = words::after_list(args, 0);
+    let trigger = words::after_list(args, second);
     generate_candidates(
         words::part(args, 0),
         words::cut(bytes, 0, words::word(args, second) as usize),
@@ -32,10 +32,14 @@ fn put_candidates(
     numbers: &mut [u64; WORDS],
     out: &mut [u64; WORDS],
 ) {
-    let over = words::after(args, words::after(args, 0, 1), 1) + 1;
-    let fifth = words::after(args, over, 1);
+    let over = words::after_list(args, words::after_list(args, 0)) + 1;
+    let fifth = words::after_list(args, over);
     let end = words::put_list(out, 3, words::part(args, fifth));
-    let last = words::put_list(numbers, 0, words::part(args, words::after(args, fifth, 1)));
+    let last = words::put_list(
+        numbers,
+        0,
+        words::part(args, words::after_list(args, fifth)),
+    );
     let g = generated(args, bytes, out, end, numbers, last);
     out[0] = g.refusal;
     out[1] = g.candidates as u64;

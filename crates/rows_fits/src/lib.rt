@@ -15,19 +15,6 @@ const ROOM: usize = 469441;
 // The words that are told of a log that was read: two decisions.
 const SHOWN: usize = 28;
 
-// The sum of each byte times its place from 1 on, as rows_seeded's of words.
-fn digest(bytes: &[u8]) -> u64 {
-    let mut sum = 0;
-    let mut total = 0;
-    let mut i = bytes.len();
-    while 0 < i {
-        i -= 1;
-        sum = std::num::wrapping_add_u64(sum, words::byte(bytes, i) as u64);
-        total = std::num::wrapping_add_u64(total, sum);
-    }
-    total
-}
-
 // ---- tables
 
 pub fn answer(args: &[u64; WORDS]) -> [u64; SHORT] {
@@ -41,9 +28,9 @@ pub fn answer(args: &[u64; WORDS]) -> [u64; SHORT] {
 fn four(args: &[u64; WORDS], at: usize) -> [u64; 4] {
     [
         word(args, at),
-        word(args, std::num::wrapping_add_usize(at, 1)),
-        word(args, std::num::wrapping_add_usize(at, 2)),
-        word(args, std::num::wrapping_add_usize(at, 3)),
+        word(args, at.wrapping_add(1)),
+        word(args, at.wrapping_add(2)),
+        word(args, at.wrapping_add(3)),
     ]
 }
 
@@ -55,7 +42,11 @@ fn laid(seed: u64, at: u64, list: &[u64]) -> [u64; SEEDED] {
 }
 
 fn put_table(r: Written, out: &[u8], asked: [u64; 4], told: &mut [u64; WORDS]) {
-    words::put_all(told, 0, &[r.refusal, r.length as u64, digest(out)]);
+    words::put_all(
+        told,
+        0,
+        &[r.refusal, r.length as u64, rows_seeded::digest(out)],
+    );
     words::put_list(
         told,
         3,
@@ -68,7 +59,7 @@ fn filled(byte: u8) -> [u8; ROOM] {
 }
 
 fn put_written(log: DecisionLog, words: &[u64], asked: [u64; 4], told: &mut [u64; WORDS]) {
-    let n = words::least(asked[0] as usize, ROOM);
+    let n = (asked[0] as usize).min(ROOM);
     let mut room = filled((asked[1] % 256) as u8);
     let out = &mut room[0..n];
     let r = fits::write_fits(log, words, out);
@@ -76,7 +67,7 @@ fn put_written(log: DecisionLog, words: &[u64], asked: [u64; 4], told: &mut [u64
 }
 
 fn put_fits(args: &[u64; WORDS], told: &mut [u64; WORDS]) {
-    let asked = four(args, words::after(args, 6, 1));
+    let asked = four(args, words::after_list(args, 6));
     let n = length_at(args, 3);
     let buffer = laid(word(args, 4), word(args, 5), words::part(args, 6));
     put_written(log_at(args), &buffer[0..n], asked, told);
@@ -85,7 +76,7 @@ fn put_fits(args: &[u64; WORDS], told: &mut [u64; WORDS]) {
 // ---- the log's text
 
 fn put_read(r: TextRead, words: &[u64], told: &mut [u64; WORDS]) {
-    let n = words::least(words.len(), SHOWN);
+    let n = words.len().min(SHOWN);
     let log = r.log;
     words::put_all(told, 0, &[r.refusal, log.first, log.count, log.sequence]);
     let at = words::put_list(told, 4, &words[0..n]);
@@ -93,7 +84,7 @@ fn put_read(r: TextRead, words: &[u64], told: &mut [u64; WORDS]) {
 }
 
 fn put_log(text: &[u8], length: u64, seed: u64, told: &mut [u64; WORDS]) {
-    let n = words::least(length as usize, SEEDED);
+    let n = (length as usize).min(SEEDED);
     let mut buffer = rows_seeded::seeded(seed);
     let words = &mut buffer[0..n];
     put_read(log_text::read_log(text, words), words, told);
@@ -107,7 +98,7 @@ fn put_report(r: Written, shown: &[u8], told: &mut [u64; WORDS]) {
 // The report goes to what a list holds.
 fn put_refused(text: &[u8], list: &[u64], told: &mut [u64; WORDS]) {
     let mut bytes = texts::bytes_of(list);
-    let n = words::least(list.len(), BYTES);
+    let n = list.len().min(BYTES);
     let room = &mut bytes[0..n];
     put_report(log_text::refused_lines(text, room), room, told);
 }
@@ -155,13 +146,13 @@ fn put_repeated(text: &[u8], length: u64, told: &mut [u64; WORDS]) {
 
 pub fn put_answer(call: u64, args: &[u64; WORDS], bytes: &[u8], told: &mut [u64; WORDS]) {
     let text = texts::text_of(args, bytes);
-    let second = words::after(args, 0, 1);
+    let second = words::after_list(args, 0);
     match call {
         63 => put_fits(args, told),
         64 => put_log(
             text,
             word(args, second),
-            word(args, std::num::wrapping_add_usize(second, 1)),
+            word(args, second.wrapping_add(1)),
             told,
         ),
         65 => put_refused(text, words::part(args, second), told),

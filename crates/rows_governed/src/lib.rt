@@ -130,7 +130,7 @@ fn snapshot_told(args: &[u64; WORDS]) -> [u64; SHORT] {
 fn state_told(call: u64, args: &[u64; WORDS]) -> [u64; SHORT] {
     let o = observed(call, args);
     let head = [o.refusal];
-    let n = words::least((38 < call) as usize, 1);
+    let n = ((38 < call) as usize).min(1);
     words::told(&head[0..n], &states::state_words(o.state))
 }
 

@@ -11,16 +11,16 @@ use rows_words::words::WORDS;
 
 // The end of the bytes of the list at a place, which begin at another.
 pub fn end_of(args: &[u64; WORDS], place: usize, from: usize) -> usize {
-    std::num::wrapping_add_usize(from, words::word(args, place) as usize)
+    from.wrapping_add(words::word(args, place) as usize)
 }
 
 fn overlap(args: &[u64; WORDS], second: usize, bytes: &[u8]) -> bool
     requires { second ≤ 262143 }
 {
-    let place = words::after(args, second, 1);
+    let place = words::after_list(args, second);
     let low = end_of(args, second, 0);
     let high = end_of(args, place + 1, low);
-    let end = end_of(args, words::after(args, place + 1, 1), high);
+    let end = end_of(args, words::after_list(args, place + 1), high);
     overlaps::overlaps_at(
         words::part(args, 0),
         words::cut(bytes, 0, low),
@@ -40,7 +40,7 @@ fn order_of(a: &[u8], b: &[u8]) -> u64 {
 
 // The number of a call that answers one.
 pub fn number_of(call: u64, args: &[u64; WORDS], bytes: &[u8]) -> u64 {
-    let second = words::after(args, 0, 1);
+    let second = words::after_list(args, 0);
     if call == 16 {
         let keys = words::cut(bytes, 0, end_of(args, second, 0));
         return faults::tables::broken_keys(words::part(args, 0), keys) as u64;
@@ -69,7 +69,7 @@ fn table(args: &[u64; WORDS], at: usize) -> Table
 
 // The key of a call that answers one.
 pub fn key_of<'a>(call: u64, args: &[u64; WORDS], bytes: &'a [u8]) -> &'a [u8] {
-    let at = words::after(args, 0, 1);
+    let at = words::after_list(args, 0);
     let middle = end_of(args, 0, 0);
     let first = words::cut(bytes, 0, middle);
     let second = words::cut(bytes, middle, end_of(args, at, middle));

@@ -12,7 +12,7 @@ use rows_words::words::{SHORT, WORDS, word};
 // A decision's words written anew, for `of_words` behind a 1; zeros where they are none.
 fn anew(call: u64, list: &[u64]) -> [u64; SHORT] {
     let head = [1];
-    let n = words::least((call == 50) as usize, 1);
+    let n = ((call == 50) as usize).min(1);
     match decisions::of_words(list) {
         DecisionRead::Decision(d) => words::told(&head[0..n], &decisions::to_words(d)),
         DecisionRead::None => [0; SHORT],

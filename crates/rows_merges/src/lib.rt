@@ -30,15 +30,15 @@ fn estimated(
         word(args, next),
         words::part(args, next + 1),
         words::part(args, fourth),
-        words::part(args, words::after(args, fourth, 1)),
+        words::part(args, words::after_list(args, fourth)),
         words::room(out, 3, end),
     )
 }
 
 pub fn put_estimates(args: &[u64; WORDS], out: &mut [u64; WORDS]) {
-    let next = words::after(args, 0, 1);
-    let fourth = words::after(args, next + 1, 1);
-    let last = words::after(args, words::after(args, fourth, 1), 1);
+    let next = words::after_list(args, 0);
+    let fourth = words::after_list(args, next + 1);
+    let last = words::after_list(args, words::after_list(args, fourth));
     let end = words::put_list(out, 2, words::part(args, last));
     let e = estimated(args, next, fourth, out, end);
     words::put_all(out, 0, &[e.refusal, e.estimates as u64]);
@@ -72,7 +72,7 @@ fn picked(args: &[u64; WORDS]) -> [u64; SHORT] {
         states::vector_at(args, 0),
         states::focus_at(args, 3),
         words::part(args, 6),
-        words::part(args, words::after(args, 6, 1)),
+        words::part(args, words::after_list(args, 6)),
     );
     let winner = p.winner;
     let won = winner_words(winner);
@@ -110,7 +110,7 @@ fn decision(args: &[u64; WORDS]) -> [u64; SHORT] {
             tier: decisions::tier_of(word(args, 9)),
         },
         words::part(args, 10),
-        words::part(args, words::after(args, 10, 1)),
+        words::part(args, words::after_list(args, 10)),
     );
     words::told(&[], &decisions::to_words(d))
 }

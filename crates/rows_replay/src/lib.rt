@@ -33,7 +33,7 @@ fn put_run(out: &mut [u64; WORDS], r: Replayed, shown: &[u8]) {
 // The output goes to what a list holds.
 fn put_replay(text: &[u8], list: &[u64], out: &mut [u64; WORDS]) {
     let mut bytes = texts::bytes_of(list);
-    let n = words::least(list.len(), BYTES);
+    let n = list.len().min(BYTES);
     let room = &mut bytes[0..n];
     put_run(out, run::replay(text, room), room);
 }
@@ -50,7 +50,7 @@ fn put_filled(text: &[u8], length: usize, out: &mut [u64; WORDS]) {
 
 pub fn put_answer(call: u64, args: &[u64; WORDS], bytes: &[u8], out: &mut [u64; WORDS]) {
     let text = texts::text_of(args, bytes);
-    let second = words::after(args, 0, 1);
+    let second = words::after_list(args, 0);
     if call == 58 {
         put_replay(text, words::part(args, second), out);
         return;

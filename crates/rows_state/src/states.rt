@@ -36,10 +36,10 @@ fn level_of(flag: u64, level: u32) -> FocusLevel {
 
 // The focus whose flag, level and streak stand from a place on.
 pub fn focus_at(args: &[u64; WORDS], at: usize) -> FocusState {
-    let level = small(args, std::num::wrapping_add_usize(at, 1));
+    let level = small(args, at.wrapping_add(1));
     FocusState {
         current_focus: level_of(word(args, at), level),
-        streak: small(args, std::num::wrapping_add_usize(at, 2)),
+        streak: small(args, at.wrapping_add(2)),
     }
 }
 
@@ -56,8 +56,8 @@ pub fn focus_words(focus: FocusState) -> [u64; 3] {
 pub fn vector_at(args: &[u64; WORDS], at: usize) -> PressureVector {
     PressureVector {
         l0: float(args, at),
-        deep_debt: float(args, std::num::wrapping_add_usize(at, 1)),
-        read: float(args, std::num::wrapping_add_usize(at, 2)),
+        deep_debt: float(args, at.wrapping_add(1)),
+        read: float(args, at.wrapping_add(2)),
     }
 }
 

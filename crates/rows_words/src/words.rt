@@ -35,18 +35,12 @@ impl Element for usize {
     }
 }
 
-pub fn least(a: usize, b: usize) -> usize
-    ensures { (result ≤ a) × (result ≤ b) }
-{
-    a.min(b)
-}
-
-pub fn word(words: &[u64; WORDS], at: usize) -> u64 {
-    words.get(at).copied().unwrap_or(0)
-}
-
-pub fn byte(bytes: &[u8], at: usize) -> u8 {
-    bytes.get(at).copied().unwrap_or(0)
+// The word or byte at a place.
+pub fn word<T: Element>(list: &[T], at: usize) -> u64 {
+    match list.get(at) {
+        Some(n) => n.as_word(),
+        None => 0,
+    }
 }
 
 // The place after the part at a place.
@@ -66,13 +60,6 @@ pub fn after_list(words: &[u64; WORDS], at: usize) -> usize
     ensures { result ≤ 262143 }
 {
     behind(words, at, Kind::List)
-}
-
-// The place after the number (kind 0) or the list (kind 1) at a place.
-pub fn after(words: &[u64; WORDS], at: usize, kind: u64) -> usize
-    ensures { result ≤ 262143 }
-{
-    behind(words, at, if kind == 0 { Kind::Number } else { Kind::List })
 }
 
 // What stands from a place up to another, as far as it goes.
