@@ -1,6 +1,7 @@
 // A log of one decision, its table and its text; and an observation replayed. A line has the refusal and two words or bytes, unless it says otherwise.
-use crate::told::{byte_at, told, word_at};
+use crate::told::told;
 use coinhamper::logged;
+use rows_words::words::word;
 use std::io::Result;
 
 fn decision(kind: u64) -> [u64; 14] {
@@ -9,24 +10,24 @@ fn decision(kind: u64) -> [u64; 14] {
 
 fn record(rt: &impl Print, kind: u64, head: &mut [u64], words: &mut [u64]) -> Result<()> {
     let d = decision(kind);
-    let refusal = logged::coinhamper_record_decision(&mut *head, &mut *words, &d);
+    let refusal = logged::coinhamper_record_decision(head, words, &d);
     told(
         rt,
         b"record_decision",
         refusal,
-        word_at(&*head, 1),
-        word_at(&*words, 10),
+        word(head, 1),
+        word(words, 10),
     )
 }
 
 fn recent(rt: &impl Print, head: &[u64], words: &[u64], out: &mut [u64]) -> Result<()> {
-    let refusal = logged::coinhamper_recent_decisions(head, words, &mut *out);
+    let refusal = logged::coinhamper_recent_decisions(head, words, out);
     told(
         rt,
         b"recent_decisions",
         refusal,
-        word_at(&*out, 10),
-        word_at(&*out, 14),
+        word(out, 10),
+        word(out, 14),
     )
 }
 
@@ -40,47 +41,29 @@ fn length(rt: &impl Print, head: &[u64], words: &[u64]) -> Result<()> {
 // The refusal, the length, and the last byte of the first word.
 fn table(rt: &impl Print, head: &[u64], words: &[u64], file: &mut [u8]) -> Result<()> {
     let mut written: usize = 7;
-    let refusal = logged::coinhamper_write_fits(head, words, &mut *file, &mut written);
-    told(
-        rt,
-        b"write_fits",
-        refusal,
-        written as u64,
-        byte_at(&*file, 8647),
-    )
+    let refusal = logged::coinhamper_write_fits(head, words, file, &mut written);
+    told(rt, b"write_fits", refusal, written as u64, word(file, 8647))
 }
 
 fn read(rt: &impl Print, text: &[u8], head: &mut [u64], words: &mut [u64]) -> Result<()> {
-    let refusal = logged::coinhamper_read_log(text, &mut *head, &mut *words);
-    told(
-        rt,
-        b"read_log",
-        refusal,
-        word_at(&*head, 2),
-        word_at(&*words, 10),
-    )
+    let refusal = logged::coinhamper_read_log(text, head, words);
+    told(rt, b"read_log", refusal, word(head, 2), word(words, 10))
 }
 
 fn report(rt: &impl Print, text: &[u8], out: &mut [u8]) -> Result<()> {
     let mut written: usize = 7;
-    let refusal = logged::coinhamper_refused_lines(text, &mut *out, &mut written);
-    told(
-        rt,
-        b"refused_lines",
-        refusal,
-        written as u64,
-        byte_at(&*out, 2),
-    )
+    let refusal = logged::coinhamper_refused_lines(text, out, &mut written);
+    told(rt, b"refused_lines", refusal, written as u64, word(out, 2))
 }
 
 fn replay(rt: &impl Print, out: &mut [u8]) -> Result<()> {
     let mut written: usize = 7;
     let refusal = logged::coinhamper_replay(
         b"0,3,4,0000000000000000,0000000000000000,0\n",
-        &mut *out,
+        out,
         &mut written,
     );
-    told(rt, b"replay", refusal, written as u64, byte_at(&*out, 4))
+    told(rt, b"replay", refusal, written as u64, word(out, 4))
 }
 
 fn reading(rt: &impl Print, head: &[u64], words: &[u64]) -> Result<()> {
@@ -100,12 +83,12 @@ fn tables(rt: &impl Print, head: &[u64], words: &[u64]) -> Result<()> {
 }
 
 fn texts(rt: &impl Print, head: &mut [u64], words: &mut [u64]) -> Result<()> {
-    read(rt, b"8\n", &mut *head, &mut *words)?;
+    read(rt, b"8\n", head, words)?;
     read(
         rt,
         b"8,0000000000000000,0000000000000000,0000000000000000,0,0,4,3,1,0,9,0000000000000000,0000000000000000,0000000000000000\n",
-        &mut *head,
-        &mut *words,
+        head,
+        words,
     )
 }
 
@@ -125,9 +108,9 @@ fn replays(rt: &impl Print) -> Result<()> {
 
 fn recording(rt: &impl Print, head: &mut [u64], words: &mut [u64]) -> Result<()> {
     let mut two: [u64; 2] = [0; 2];
-    record(rt, 3, &mut two, &mut *words)?;
-    record(rt, 4, &mut *head, &mut *words)?;
-    record(rt, 3, &mut *head, &mut *words)
+    record(rt, 3, &mut two, words)?;
+    record(rt, 4, head, words)?;
+    record(rt, 3, head, words)
 }
 
 pub(crate) fn rows(rt: &impl Print) -> Result<()> {

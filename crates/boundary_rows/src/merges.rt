@@ -1,6 +1,7 @@
 // README's worked run, from tables to a decision. A line has the refusal and two words of the answer, unless it says otherwise.
-use crate::told::{told, word_at};
+use crate::told::told;
 use coinhamper::merges;
+use rows_words::words::word;
 use std::io::Result;
 
 fn tables() -> [u64; 28] {
@@ -24,8 +25,8 @@ fn generate(rt: &impl Print, c: &mut [u64], n: &mut [u64]) -> Result<()> {
         b"abcdef",
         4,
         &o,
-        &mut *c,
-        &mut *n,
+        c,
+        n,
         &mut count,
         &mut numbers,
     );
@@ -39,35 +40,33 @@ fn generate(rt: &impl Print, c: &mut [u64], n: &mut [u64]) -> Result<()> {
     told(
         rt,
         b"generate_candidates",
-        word_at(&*c, 18),
-        word_at(&*n, 3),
-        word_at(&*n, 8),
+        word(c, 18),
+        word(n, 3),
+        word(n, 8),
     )
 }
 
 fn estimate(rt: &impl Print, next: u64, c: &[u64], n: &[u64], e: &mut [u64]) -> Result<()> {
     let t = tables();
     let o = over();
-    let refusal = merges::coinhamper_estimate_candidates(&t, next, &o, c, n, &mut *e);
+    let refusal = merges::coinhamper_estimate_candidates(&t, next, &o, c, n, e);
     told(
         rt,
         b"estimate_candidates",
         refusal,
-        word_at(&*e, 11),
-        word_at(&*e, 34),
+        word(e, 11),
+        word(e, 34),
     )
 }
 
 fn pick(rt: &impl Print, flag: u64, c: &[u64], e: &[u64], p: &mut [u64]) -> Result<()> {
-    let refusal = merges::coinhamper_pick_best_cause_aware(
-        0.0, 1.0, 0.0, flag, 0, 0, c, e, &mut *p,
-    );
+    let refusal = merges::coinhamper_pick_best_cause_aware(0.0, 1.0, 0.0, flag, 0, 0, c, e, p);
     told(
         rt,
         b"pick_best_cause_aware",
         refusal,
-        word_at(&*p, 1),
-        word_at(&*p, 5),
+        word(p, 1),
+        word(p, 5),
     )
 }
 
