@@ -15,6 +15,8 @@ const TEXT: usize = 1048576;
 // The longest question.
 const LINE: usize = 1000000;
 
+// A call is its number in the list of calls: rows_calls says why it is no enum.
+
 // The number that a call of arith, records, faults or keys answers.
 fn number_of(call: u64, args: &[u64; WORDS], bytes: &[u8; BYTES]) -> u64 {
     match call {

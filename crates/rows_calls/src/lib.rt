@@ -13,7 +13,7 @@ const ECHO: u64 = 60;
 // A call, and the shape of its answer.
 #[derive(Clone, Copy)]
 pub struct Call {
-    // The number in the list of calls: of an enum each name would stand a second time beside its line.
+    // The number in the list of calls. An enum of them all would stand below every room, and each further call would be a check of all of them.
     pub number: u64,
     pub told: Shape,
 }

@@ -97,6 +97,7 @@ pub fn arguments(text: &[u8], args: &mut [u64; WORDS]) -> Result<Option<Shape>, 
     let mut shape = Some(Shape::new());
     let mut at = 0;
     let mut left = text;
+    // No `for`: how much text an argument takes is known when it is read.
     while let Some((space, argument)) = left.split_first() {
         if *space != b' ' {
             return Err(Fault::Number);

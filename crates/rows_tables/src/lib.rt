@@ -7,6 +7,7 @@ use records::tables;
 use rows_words::words;
 use rows_words::words::{SHORT, WORDS};
 
+// A call is its number in the list of calls: rows_calls says why it is no enum.
 pub fn count_of(call: u64, list: &[u64]) -> u64 {
     match call {
         9 => tables::table_count(list) as u64,

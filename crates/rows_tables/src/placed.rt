@@ -34,17 +34,19 @@ fn list_of(call: u64, args: &[u64; WORDS], at: usize) -> &[u64] {
 fn ordered(call: u64, args: &[u64; WORDS], bytes: &[u8], at: usize, places: &mut [usize]) -> usize {
     let tables = words::part(args, 0);
     let n = words::word(args, at);
-    if call == 26 {
-        return levels::level_places(tables, n, places);
+    match call {
+        26 => levels::level_places(tables, n, places),
+        27 => {
+            let end = rows_keys::end_of(args, words::after_list(args, 0), 0);
+            levels::sort_level(tables, words::cut(bytes, 0, end), n, places)
+        }
+        _ => {
+            let place = words::word(args, at.wrapping_add(1)) as usize;
+            let value = words::word(args, at.wrapping_add(2)) as usize;
+            places::insert_at(places, n as usize, place, value);
+            0
+        }
     }
-    if call == 27 {
-        let end = rows_keys::end_of(args, words::after_list(args, 0), 0);
-        return levels::sort_level(tables, words::cut(bytes, 0, end), n, places);
-    }
-    let place = words::word(args, at.wrapping_add(1)) as usize;
-    let value = words::word(args, at.wrapping_add(2)) as usize;
-    places::insert_at(places, n as usize, place, value);
-    0
 }
 
 // The call's list comes back whole, behind a number but for `insert_at`.
@@ -52,8 +54,7 @@ pub fn put_answer(call: u64, args: &[u64; WORDS], bytes: &[u8], out: &mut [u64; 
     let at = number_place(call, args);
     let list = list_of(call, args, at);
     let mut room = places_of(list);
-    let n = list.len().min(LENT);
-    let places = &mut room[0..n];
+    let places = words::room(&mut room, 0, list.len());
     out[0] = ordered(call, args, bytes, at, places) as u64;
-    words::put_list(out, (call < 28) as usize, places);
+    words::put_list(out, usize::from(call < 28), places);
 }
