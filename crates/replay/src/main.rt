@@ -1,24 +1,8 @@
 // Reads standard input to its end and writes what the library makes of it.
 #![tactic(auto)]
 
-ghost use Rattle.std.specs.Io.{ReadsAtMost};
-
-use std::io::{Read, Result};
-
-// Reads until the buffer is full or the input ends, and tells how many bytes were put at its start.
-fn read_full(input: &mut impl Read, buf: &mut [u8]) -> Result<usize>
-    ensures { ReadsAtMost result buf.new }
-{
-    let mut done = 0;
-    while done < buf.len() {
-        let n = input.read(&mut buf[done..])?;
-        if n == 0 {
-            break;
-        }
-        done += n;
-    }
-    Ok(done)
-}
+use inputs::read_full;
+use std::io::Result;
 
 fn answer(rt: &impl Print, text: &[u8], out: &mut [u8]) -> Result<()> {
     // Room for every output is room enough, so that nothing is refused.
