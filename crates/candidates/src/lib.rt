@@ -9,7 +9,7 @@ ghost use Rattle.candidates.specs.Told.{told_of};
 
 use candidate_words::put_candidates;
 use l0_words::Ends;
-pub use refusals::{Refusal, code};
+use refusals::Refusal;
 
 // How many candidates, and how many numbers in all of them.
 #[derive(Clone, Copy)]

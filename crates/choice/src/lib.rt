@@ -13,8 +13,6 @@ ghost use Rattle.choice.specs.Choice.Accepted.{LevelsFit, Pickable};
 use kinds::focus::FocusState;
 use kinds::tier::SelectionTier;
 use kinds::vector::PressureVector;
-// For the crates above that tell a choice by numbers and have no other use of refusals.
-pub use refusals::code;
 use refusals::Refusal;
 use search::{Scores, Search};
 

@@ -9,8 +9,6 @@ use buffers::put_words;
 use decision_log::{DecisionLog, log_bad};
 use decisions::{DECISION_WIDTH, SchedulingDecision};
 use next_log::{next_log, next_place, next_sequence};
-// For a crate above that tells a refusal by its number.
-pub use refusals;
 use refusals::Refusal;
 
 fn with_sequence(d: SchedulingDecision, sequence: u64) -> SchedulingDecision

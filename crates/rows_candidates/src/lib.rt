@@ -1,7 +1,8 @@
 // The call of candidates.
 #![tactic(auto)]
 
-use candidates::{Generated, Refusal, code, generate_candidates};
+use candidates::{Generated, generate_candidates};
+use refusals::{Refusal, code};
 use rows_words::words;
 use rows_words::words::WORDS;
 

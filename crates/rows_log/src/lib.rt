@@ -2,7 +2,6 @@
 #![tactic(auto)]
 
 use decision_log::DecisionLog;
-use recording::refusals;
 use rows_seeded::{SEEDED, length_at, log_at};
 use rows_words::words;
 use rows_words::words::{SHORT, WORDS, word};

@@ -32,7 +32,7 @@ fn estimated(
         words::part(args, words::after_list(args, fourth)),
         words::room(out, 3, end),
     );
-    [estimates::code(answer), answer.unwrap_or(0) as u64]
+    [refusals::code(answer), answer.unwrap_or(0) as u64]
 }
 
 pub fn put_estimates(args: &[u64; WORDS], out: &mut [u64; WORDS]) {
@@ -85,7 +85,7 @@ fn picked(args: &[u64; WORDS]) -> [u64; SHORT] {
     let focus = states::focus_words(p.focus);
     words::told(
         &[
-            choice::code(answer),
+            refusals::code(answer),
             won[0],
             won[1],
             focus[0],
