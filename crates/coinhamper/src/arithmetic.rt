@@ -9,7 +9,7 @@ ghost use Rattle.arith.specs.Logarithm.{ln_of};
 ghost use Rattle.keys.specs.Keys.{order_of, order_number};
 
 use arith::floats;
-use keys::Order;
+use std::cmp::Ordering;
 
 #[unsafe(no_mangle)]
 pub extern "C" fn coinhamper_of_bits(bits: u64) -> f64
@@ -89,8 +89,8 @@ pub extern "C" fn coinhamper_compare(a: &[u8], b: &[u8]) -> u64
     ensures { result ≡ order_number (order_of a.now b.now) }
 {
     match keys::compare(a, b) {
-        Order::Less => 0,
-        Order::Equal => 1,
-        Order::Greater => 2,
+        Ordering::Less => 0,
+        Ordering::Equal => 1,
+        Ordering::Greater => 2,
     }
 }

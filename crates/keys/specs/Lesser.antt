@@ -3,7 +3,7 @@ use Rattle.std.specs.Prelude.{ℕ, ◌≡◌, ◌⊎◌, Bool, cond, List}
 use Rattle.std.proofs.Math.Path.{refl, ap}
 use Rattle.std.proofs.Common.{inl, inr}
 use Rattle.std.proofs.Math.Bool.{true, false, not}
-use Rattle.keys.specs.Keys.{order_of, is_less, key_lt, key_le, lesser_of, greater_of}
+use Rattle.keys.specs.Keys.{key_lt, key_le, lesser_of, greater_of}
 use Rattle.keys.specs.Parts.{Bytes, lesser_part, greater_part}
 use Rattle.keys.specs.TotalOrder.{le_refl, lt-asym}
 

@@ -1,93 +1,50 @@
 -- The order of keys is a total order: reflexive, antisymmetric, transitive, and of any two keys one is at most the other. Equal means equal.
-use Rattle.std.specs.Prelude.{ℕ, ◌≤◌, ◌<◌, ◌≡◌, refl, ◌⊎◌, Bool, true, false, not, cond, List, [], ◌∷◌, ltb}
-use Rattle.std.proofs.Common.{arith, sym, ◌∙◌, ap, inl, inr, true≢false, lt-ltb, le-ltb, ltb-true, ltb-false}
-use Rattle.keys.specs.declared.Order.{Order}
-use Rattle.keys.specs.declared.Order.TheVariants.{Less, Equal, Greater}
+use Rattle.std.specs.Prelude.{ℕ, ◌≡◌, refl, ◌⊎◌, Bool, true, false, not, List}
+use Rattle.std.proofs.Common.{sym, ◌∙◌, ap, inl, inr, true≢false}
+use Rattle.std.specs.declared.cmp.Ordering.{Ordering}
+use Rattle.std.specs.declared.cmp.Ordering.TheVariants.{Less, Equal, Greater}
+use Rattle.std.specs.Ordering.{ordering_reverse}
+use Rattle.std.specs.FinMap.{slice_cmp-IsAntisymmetric, nat_cmp-IsAntisymmetric}
+use Rattle.std.proofs.lemmas.Cmp.{nat_list_cmp_total}
 use Rattle.keys.specs.Keys.{order_of, is_less, key_lt, key_le}
+use Rattle.keys.specs.KeyOrder.{order_slices}
 
 -- how the second stands to the first
-abbrev pub turned : Order → Order
+abbrev pub turned : Ordering → Ordering
 turned Less = Greater
 turned Equal = Equal
 turned Greater = Less
 
--- two bytes are told apart, or are the same
-by_bytes : {A : Type 0} (x y : ℕ) (l e g : A) (P : A → Type 0) → (x < y → P l) → (x ≡ y → P e) → (y < x → P g) → P (cond (ltb x y) l (cond (ltb y x) g e))
-by_bytes x y l e g P p q r = first (ltb x y) refl (ltb y x) refl
-  where
-    first : (s : Bool) → ltb x y ≡ s → (t : Bool) → ltb y x ≡ t → P (cond s l (cond t g e))
-    first true a t b = p (ltb-true x y a)
-    first false a true b = r (ltb-true y x b)
-    first false a false b = q (omega (arith, ltb-false x y a, ltb-false y x b))
-
-pub order-self : (a : List ℕ) → order_of a a ≡ Equal
-unfolding order_of
-order-self [] = refl
-order-self (x ∷ xs) = rw (le-ltb x x (omega arith)) (order-self xs)
+-- the library's laws of its order of slices
+turned_is : (o : Ordering) → ordering_reverse o ≡ turned o
+turned_is Less = refl
+turned_is Equal = refl
+turned_is Greater = refl
 
 pub order-turned : (a b : List ℕ) → order_of b a ≡ turned (order_of a b)
-unfolding order_of
-order-turned [] [] = refl
-order-turned [] (y ∷ ys) = refl
-order-turned (x ∷ xs) [] = refl
-order-turned (x ∷ xs) (y ∷ ys) = by_bytes x y Less (order_of xs ys) Greater (λ o. cond (ltb y x) Less (cond (ltb x y) Greater (order_of ys xs)) ≡ turned o)
-    (λ h. rw (lt-ltb x y h, le-ltb y x (omega arith)))
-    (λ e. rw (e, le-ltb y y (omega arith)) (order-turned xs ys))
-    (λ h. rw (lt-ltb y x h))
+order-turned a b =
+    sym (order_slices b a) ∙ nat_list_cmp_total.antisymm b a ∙ rw (order_slices a b) (turned_is (order_of a b))
 
-never : {A : Type 0} {o : Order} → is_less o ≡ false → o ≡ Less → A
-never {o = Less} f e = absurd (true≢false f)
-never {o = Equal} f e = absurd (true≢false (ap is_less (sym e)))
-never {o = Greater} f e = absurd (true≢false (ap is_less (sym e)))
-
-abbrev is_equal : Order → Bool
-is_equal Less = false
-is_equal Equal = true
-is_equal Greater = false
+pub order-self : (a : List ℕ) → order_of a a ≡ Equal
+order-self a = go (order_of a a) (order-turned a a)
+  where
+    go : (o : Ordering) → o ≡ turned o → o ≡ Equal
+    go Less e = (cc)
+    go Equal e = refl
+    go Greater e = (cc)
 
 pub order-equal : (a b : List ℕ) → order_of a b ≡ Equal → a ≡ b
-unfolding order_of
-order-equal [] [] e = refl
-order-equal [] (y ∷ ys) e = absurd (true≢false (ap is_equal (sym e)))
-order-equal (x ∷ xs) [] e = absurd (true≢false (ap is_equal (sym e)))
-order-equal (x ∷ xs) (y ∷ ys) e = by_bytes x y Less (order_of xs ys) Greater (λ o. o ≡ Equal → x ∷ xs ≡ y ∷ ys)
-    (λ h f. absurd (true≢false (ap is_equal (sym f))))
-    (λ h f. rw (h, order-equal xs ys f))
-    (λ h f. absurd (true≢false (ap is_equal (sym f))))
-    e
-
--- a smaller first byte, or the same one and a smaller rest
-less_by : (x : ℕ) (xs : List ℕ) (y : ℕ) (ys : List ℕ) → order_of (x ∷ xs) (y ∷ ys) ≡ Less → (x < y) ⊎ ((x ≡ y) × (order_of xs ys ≡ Less))
-unfolding order_of
-less_by x xs y ys e = by_bytes x y Less (order_of xs ys) Greater (λ o. o ≡ Less → (x < y) ⊎ ((x ≡ y) × (order_of xs ys ≡ Less)))
-    (λ h f. inl h)
-    (λ h f. inr (h, f))
-    (λ h f. never refl f)
-    e
-
-less-bytes : (x : ℕ) (xs : List ℕ) (y : ℕ) (ys : List ℕ) → (x < y) ⊎ ((x ≡ y) × (order_of xs ys ≡ Less)) → order_of (x ∷ xs) (y ∷ ys) ≡ Less
-unfolding order_of
-less-bytes x xs y ys (inl h) = rw (lt-ltb x y h)
-less-bytes x xs y ys (inr h) = rw (h.0, le-ltb y y (omega arith)) h.1
+order-equal a b e = slice_cmp-IsAntisymmetric nat_cmp-IsAntisymmetric a b (order_slices a b ∙ e)
 
 pub less-trans : (a b c : List ℕ) → order_of a b ≡ Less → order_of b c ≡ Less → order_of a c ≡ Less
-unfolding order_of
-less-trans a [] [] p q = never refl q
-less-trans [] [] (z ∷ zs) p q = refl
-less-trans (x ∷ xs) [] (z ∷ zs) p q = never refl p
-less-trans a (y ∷ ys) [] p q = never refl q
-less-trans [] (y ∷ ys) (z ∷ zs) p q = refl
-less-trans (x ∷ xs) (y ∷ ys) (z ∷ zs) p q = less-bytes x xs z zs (go (less-trans xs ys zs) (less_by x xs y ys p) (less_by y ys z zs q))
-  where
-    go : (order_of xs ys ≡ Less → order_of ys zs ≡ Less → order_of xs zs ≡ Less) → (x < y) ⊎ ((x ≡ y) × (order_of xs ys ≡ Less)) → (y < z) ⊎ ((y ≡ z) × (order_of ys zs ≡ Less)) → (x < z) ⊎ ((x ≡ z) × (order_of xs zs ≡ Less))
-    go rest (inl h) (inl k) = inl (omega arith)
-    go rest (inl h) (inr k) = inl (omega (arith, k.0))
-    go rest (inr h) (inl k) = inl (omega (arith, h.0))
-    go rest (inr h) (inr k) = inr (h.0 ∙ k.0, rest h.1 k.1)
+less-trans a b c p q = sym (order_slices a c) ∙ nat_list_cmp_total.trans a b c (order_slices a b ∙ p) (order_slices b c ∙ q)
+
+never : {A : Type 0} {o : Ordering} → is_less o ≡ false → o ≡ Less → A
+never f e = absurd (true≢false (sym (ap is_less e) ∙ f))
 
 -- ---- the same in terms of "less than" and "at most"
 
-less_of : (o : Order) → is_less o ≡ true → o ≡ Less
+less_of : (o : Ordering) → is_less o ≡ true → o ≡ Less
 less_of Less e = refl
 less_of Equal e = absurd (true≢false (sym e))
 less_of Greater e = absurd (true≢false (sym e))
@@ -97,7 +54,7 @@ at_least : (b c : List ℕ) → key_lt c b ≡ false → (c ≡ b) ⊎ (order_of
 unfolding key_lt
 at_least b c e = go (order_of c b) refl
   where
-    go : (o : Order) → order_of c b ≡ o → (c ≡ b) ⊎ (order_of b c ≡ Less)
+    go : (o : Ordering) → order_of c b ≡ o → (c ≡ b) ⊎ (order_of b c ≡ Less)
     go Less h = never e h
     go Equal h = inl (order-equal c b h)
     go Greater h = inr (order-turned c b ∙ ap turned h)
@@ -127,7 +84,7 @@ pub le_antisym : (a b : List ℕ) → key_le a b ≡ true → key_le b a ≡ tru
 unfolding key_le
 le_antisym a b e f = go (order_of a b) refl
   where
-    go : (o : Order) → order_of a b ≡ o → a ≡ b
+    go : (o : Ordering) → order_of a b ≡ o → a ≡ b
     go Less h = absurd (true≢false (sym f ∙ ap (λ o. not (is_less o)) h))
     go Equal h = order-equal a b h
     go Greater h = absurd (true≢false (sym e ∙ ap (λ o. not (is_less o)) (order-turned a b ∙ ap turned h)))
@@ -145,7 +102,7 @@ pub le_total : (a b : List ℕ) → (key_le a b ≡ true) ⊎ (key_le b a ≡ tr
 unfolding key_le
 le_total a b = go (order_of a b) refl
   where
-    go : (o : Order) → order_of a b ≡ o → (not (is_less (order_of b a)) ≡ true) ⊎ (not (is_less (order_of a b)) ≡ true)
+    go : (o : Ordering) → order_of a b ≡ o → (not (is_less (order_of b a)) ≡ true) ⊎ (not (is_less (order_of a b)) ≡ true)
     go Less h = inl (ap (λ o. not (is_less o)) (order-turned a b ∙ ap turned h))
     go Equal h = inr (ap (λ o. not (is_less o)) h)
     go Greater h = inr (ap (λ o. not (is_less o)) h)

@@ -6,17 +6,13 @@ ghost use Rattle.keys.specs.Keys.{key_le};
 ghost use Rattle.records.specs.Tables.{tables_of, table_at};
 ghost use Rattle.overlaps.specs.Overlaps.{overlaps};
 
-use keys::Order;
 use records::tables;
 
+#[tactic(auto, using(keys::specs::KeyOrder::at_least_is), unfolding(keys::specs::Keys::key_le))]
 fn at_most(a: &[u8], b: &[u8]) -> bool
     ensures { result ≡ key_le a.now b.now }
 {
-    match keys::compare(b, a) {
-        Order::Less => false,
-        Order::Equal => true,
-        Order::Greater => true,
-    }
+    keys::compare(b, a).is_ge()
 }
 
 // The table's keys meet the range from lo to hi, both ends counted.

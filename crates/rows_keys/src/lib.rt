@@ -3,11 +3,11 @@
 
 ghost use Rattle.std.specs.Prelude.{◌≤◌};
 
-use keys::Order;
 use records::tables;
 use records::tables::Table;
 use rows_words::words;
 use rows_words::words::WORDS;
+use std::cmp::Ordering;
 
 // The end of the bytes of the list at a place, which begin at another.
 pub fn end_of(args: &[u64; WORDS], place: usize, from: usize) -> usize {
@@ -32,9 +32,9 @@ fn overlap(args: &[u64; WORDS], second: usize, bytes: &[u8]) -> bool
 
 fn order_of(a: &[u8], b: &[u8]) -> u64 {
     match keys::compare(a, b) {
-        Order::Less => 0,
-        Order::Equal => 1,
-        Order::Greater => 2,
+        Ordering::Less => 0,
+        Ordering::Equal => 1,
+        Ordering::Greater => 2,
     }
 }
 
