@@ -1,4 +1,5 @@
 -- The order of keys.
+pub mod KeySteps
 pub mod Keys
 pub mod KeyOrder
 pub mod Parts

@@ -1,11 +1,12 @@
 -- Whether a test holds of one of a list, and the search for that one, place by place.
 use Rattle.std.specs.Prelude.{ℕ, zero, suc, ◌+◌, ◌≤◌, ◌<◌, ◌≡◌, ◌⊎◌, Bool, ◌||◌, length, drop, get_or}
 use Rattle.std.proofs.Common.{add-one, arith, ◌∙◌, true≢false, drop_of_length-le, drop-cons}
-use Rattle.std.proofs.Math.Path.{refl, sym}
+use Rattle.std.proofs.Math.Path.{refl, sym, ap}
 use Rattle.std.proofs.Math.Logic.{⊎_elim}
 use Rattle.std.proofs.Math.Bool.{true, false, or_assoc, or-false}
 use mathlib.Core.List.Memᴰ
 use mathlib.Core.List.{List, [], ◌∷◌, Memᴰ}
+use Rattle.std.specs.List.{list_any}
 use Rattle.lists.specs.Tests.{neither}
 
 unfoldable pub any_of : {X : Type 0} → (X → Bool) → List X → Bool
@@ -13,6 +14,12 @@ any_of p [] = false
 any_of p (x ∷ xs) = p x || any_of p xs
 
 module _ {X : Type 0} where
+  -- the library's name of it
+  pub any_list : (p : X → Bool) (xs : List X) → any_of p xs ≡ list_any p xs
+  unfolding any_of
+  any_list p [] = refl
+  any_list p (x ∷ xs) = ap (λ (b : Bool). p x || b) (any_list p xs)
+
   -- where it holds of none, it does not hold of any one
   pub any-no : (p : X → Bool) (xs : List X) → any_of p xs ≡ false → (x : X) → Memᴰ x xs → p x ≡ false
   unfolding any_of
