@@ -7,8 +7,7 @@ use Rattle.refusals.specs.Checks.{check_for, clear_for}
 use Rattle.records.specs.Tables.{tables_of}
 use Rattle.number_order.specs.Numbers.{repeats}
 use Rattle.faults.specs.Tables.{too_many_tables, broken_tables, broken_keys, too_many_entries, broken_entries, levels_out}
-use Rattle.candidates.specs.declared.Generated.{Generated}
-use Rattle.candidates.specs.Generate.{GenerateInput, made_of, number_words, input_checks, short_of, generate_fault, generated_of}
+use Rattle.candidates.specs.Generate.{Generated, GenerateInput, made_of, number_words, input_checks, short_of, generate_fault, generated_of}
 
 -- the answer's refusal is the call's fault
 pub generated-refusal : (q : GenerateInput) (room₁ room₂ : ℕ) → (generated_of q room₁ room₂).refusal ≡ generate_fault q room₁ room₂

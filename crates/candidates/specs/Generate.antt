@@ -4,7 +4,6 @@ use Rattle.refusals.specs.Refusals.{Check, ◌gives◌, first_fault, none, too_m
 use Rattle.records.specs.Tables.{tables_of, entries_of}
 use Rattle.number_order.specs.Numbers.{repeats}
 use Rattle.faults.specs.Tables.{too_many_tables, broken_tables, broken_keys, too_many_entries, broken_entries, levels_out}
-use Rattle.candidates.specs.declared.Generated.{Generated}
 use Rattle.l0_words.specs.Words.{Offer, words_from, numbers_in}
 use Rattle.candidate_words.specs.Candidates.{offers_of}
 
@@ -55,6 +54,12 @@ short_of q room₁ room₂ = ltb room₁ (length (candidate_words q)) || ltb roo
 unfoldable pub generate_fault : GenerateInput → ℕ → ℕ → ℕ
 generate_fault q room₁ room₂ =
     first_fault (input_checks q.tables q.keys q.over ++ (short_of q room₁ room₂ gives no_room ∷ []))
+
+-- an answer: its refusal, and the two counts
+pub record Generated : Type 0 where
+  pub refusal : ℕ
+  pub candidates : ℕ
+  pub numbers : ℕ
 
 -- the refusal with the two counts, 0 and 0 when refused
 unfoldable pub generated_of : GenerateInput → ℕ → ℕ → Generated

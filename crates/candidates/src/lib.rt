@@ -3,14 +3,17 @@
 
 ghost use Rattle.std.specs.Prelude.{◌≡◌, ◌||◌, ltb};
 ghost use Rattle.refusals.specs.Refusals.{first_fault};
+ghost use Rattle.refusals.specs.Codes.{code};
 ghost use Rattle.candidates.specs.Generate.{generate_input, words_checks, input_fault, Answered};
+ghost use Rattle.candidates.specs.Told.{told_of};
 
 use candidate_words::put_candidates;
 use l0_words::Ends;
+pub use refusals::{Refusal, code};
 
+// How many candidates, and how many numbers in all of them.
 #[derive(Clone, Copy)]
 pub struct Generated {
-    pub refusal: u64,
     pub candidates: usize,
     pub numbers: usize,
 }
@@ -23,17 +26,10 @@ pub fn generate_candidates(
     over_budget_levels: &[u64],
     candidates: &mut [u64],
     numbers: &mut [u64],
-) -> Generated
-    ensures { Answered (generate_input tables.now keys.now l0_compaction_trigger over_budget_levels.now) candidates.old candidates.new numbers.old numbers.new result }
+) -> Result<Generated, Refusal>
+    ensures { Answered (generate_input tables.now keys.now l0_compaction_trigger over_budget_levels.now) candidates.old candidates.new numbers.old numbers.new (told_of result) }
 {
-    let fault = input_fault(tables, keys, over_budget_levels);
-    if fault != refusals::NONE {
-        return Generated {
-            refusal: fault,
-            candidates: 0,
-            numbers: 0,
-        };
-    }
+    input_fault(tables, keys, over_budget_levels)?;
     let no_words: usize = 0;
     let no_numbers: usize = 0;
     let need = put_candidates(
@@ -45,11 +41,7 @@ pub fn generate_candidates(
         &mut numbers[..no_numbers],
     );
     if short(need, candidates.len(), numbers.len()) {
-        return Generated {
-            refusal: refusals::NO_ROOM,
-            candidates: 0,
-            numbers: 0,
-        };
+        return Err(Refusal::NoRoom);
     }
     let end = put_candidates(
         tables,
@@ -59,49 +51,42 @@ pub fn generate_candidates(
         &mut *candidates,
         &mut *numbers,
     );
-    Generated {
-        refusal: refusals::NONE,
+    Ok(Generated {
         candidates: end.words / 6,
         numbers: end.numbers,
-    }
+    })
 }
 
 fn short(need: Ends, words: usize, numbers: usize) -> bool
     ensures { result ≡ ltb words need.words || ltb numbers need.numbers }
 {
-    if words < need.words {
-        return true;
-    }
-    numbers < need.numbers
+    words < need.words || numbers < need.numbers
 }
 
 // What is wrong with the lent words, whatever the room: 4, 5, 11, 6.
-fn input_fault(tables: &[u64], keys: &[u8], over: &[u64]) -> u64
-    ensures { result ≡ input_fault tables.now keys.now over.now }
+fn input_fault(tables: &[u64], keys: &[u8], over: &[u64]) -> Result<(), Refusal>
+    ensures { code result ≡ input_fault tables.now keys.now over.now }
 {
-    let fault = words_fault(tables, keys, over);
-    if fault != refusals::NONE {
-        return fault;
-    }
+    words_fault(tables, keys, over)?;
     if number_order::repeats(tables) {
-        return refusals::DUPLICATE_NUMBER;
+        return Err(Refusal::DuplicateNumber);
     }
     if faults::tables::levels_out(over) {
-        return refusals::BAD_LEVEL;
+        return Err(Refusal::BadLevel);
     }
-    refusals::NONE
+    Ok(())
 }
 
 // 4, 5.
-fn words_fault(tables: &[u64], keys: &[u8], over: &[u64]) -> u64
-    ensures { result ≡ first_fault (words_checks tables.now keys.now over.now) }
+fn words_fault(tables: &[u64], keys: &[u8], over: &[u64]) -> Result<(), Refusal>
+    ensures { code result ≡ first_fault (words_checks tables.now keys.now over.now) }
 {
     if faults::tables::too_many_tables(tables) | faults::tables::too_many_entries(over) {
-        return refusals::TOO_MANY;
+        return Err(Refusal::TooMany);
     }
     let keys_out = faults::tables::broken_keys(tables, keys);
     if faults::tables::broken_tables(tables) | (keys_out | faults::tables::broken_entries(over)) {
-        return refusals::BAD_RECORD;
+        return Err(Refusal::BadRecord);
     }
-    refusals::NONE
+    Ok(())
 }

@@ -30,7 +30,7 @@ pub extern "C" fn coinhamper_generate_candidates(
 ) -> u64
     ensures { Generation (generate_input tables.now keys.now l0_compaction_trigger over_budget_levels.now) candidates.old candidates.new numbers.old numbers.new candidate_count.old candidate_count.new number_count.old number_count.new result }
 {
-    let g = candidates::generate_candidates(
+    let answer = candidates::generate_candidates(
         tables,
         keys,
         l0_compaction_trigger,
@@ -38,8 +38,14 @@ pub extern "C" fn coinhamper_generate_candidates(
         candidates,
         numbers,
     );
-    tell(candidate_count, g.refusal, g.candidates);
-    tell(number_count, g.refusal, g.numbers)
+    match answer {
+        Ok(made) => {
+            *candidate_count = made.candidates;
+            *number_count = made.numbers;
+            refusals::NONE
+        }
+        Err(refusal) => u64::from(refusal),
+    }
 }
 
 // Nine words to each candidate, in order.

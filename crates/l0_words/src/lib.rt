@@ -18,10 +18,7 @@ pub struct Ends {
 fn due(count: usize, trigger: u64) -> bool
     ensures { result ≡ ltb 0 count && leb trigger count }
 {
-    if count == 0 {
-        return false;
-    }
-    trigger <= count as u64
+    0 < count && trigger <= count as u64
 }
 
 pub fn put_l0(

@@ -6,10 +6,9 @@ use lib.ListN.{length, take, drop}
 use lib.Seq.{take_at}
 use borrow.Author.Tests.{eq-eqb}
 use Rattle.refusals.specs.Refusals.{none}
-use Rattle.candidates.specs.declared.Generated.{Generated}
 use Rattle.candidate_words.specs.Bounds.{words-length}
 use Rattle.candidates.specs.Accepted.{generated-refusal, generated-count}
-use Rattle.candidates.specs.Generate.{GenerateInput, Answered, made_of, candidate_words, number_words, generate_fault, front_of}
+use Rattle.candidates.specs.Generate.{Generated, GenerateInput, Answered, made_of, candidate_words, number_words, generate_fault, front_of}
 use Rattle.estimate_faults.specs.Faults.{EstimateInput, estimate_fault}
 use Rattle.estimates.specs.Estimate.Call.{estimate_words, estimated_of, estimates_out}
 use Rattle.estimates.specs.Estimate.Accepted.{estimated-refusal, words_long}

@@ -11,8 +11,7 @@ use Rattle.candidate_records.specs.declared.Candidate.{Candidate}
 use Rattle.candidate_records.specs.Candidates.{candidates_of, candidate_at}
 use Rattle.state.specs.declared.GovernorState.{GovernorState}
 use Rattle.state.specs.declared.Observed.{Observed}
-use Rattle.candidates.specs.declared.Generated.{Generated}
-use Rattle.candidates.specs.Generate.{GenerateInput, made_of, candidate_words, number_words, generated_of}
+use Rattle.candidates.specs.Generate.{Generated, GenerateInput, made_of, candidate_words, number_words, generated_of}
 use Rattle.candidates.specs.ReadBack.{offer_in}
 use Rattle.estimate_faults.specs.Faults.{EstimateInput}
 use Rattle.estimates.specs.Estimate.Call.{Estimated, estimate_words, estimated_of}

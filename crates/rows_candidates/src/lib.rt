@@ -1,7 +1,7 @@
 // The call of candidates.
 #![tactic(auto)]
 
-use candidates::{Generated, generate_candidates};
+use candidates::{Generated, Refusal, code, generate_candidates};
 use rows_words::words;
 use rows_words::words::WORDS;
 
@@ -13,7 +13,7 @@ fn generated(
     end: usize,
     numbers: &mut [u64],
     last: usize,
-) -> Generated {
+) -> Result<Generated, Refusal> {
     let second = words::after_list(args, 0);
     let trigger = words::after_list(args, second);
     generate_candidates(
@@ -40,10 +40,14 @@ fn put_candidates(
         0,
         words::part(args, words::after_list(args, fifth)),
     );
-    let g = generated(args, bytes, out, end, numbers, last);
-    out[0] = g.refusal;
-    out[1] = g.candidates as u64;
-    out[2] = g.numbers as u64;
+    let answer = generated(args, bytes, out, end, numbers, last);
+    let made = answer.unwrap_or(Generated {
+        candidates: 0,
+        numbers: 0,
+    });
+    out[0] = code(answer);
+    out[1] = made.candidates as u64;
+    out[2] = made.numbers as u64;
     words::put_list(out, end, words::part(numbers, 0));
 }
 

@@ -2,8 +2,7 @@
 use Rattle.std.specs.Prelude.{◌≡◌, refl, ℕ, Bool, true, false, cond, List, length, eqb}
 use Rattle.std.proofs.Common.{sym, ◌∙◌, eqb-true}
 use Rattle.refusals.specs.Refusals.{none}
-use Rattle.candidates.specs.declared.Generated.{Generated}
-use Rattle.candidates.specs.Generate.{GenerateInput, generate_fault, generated_of, made_of, number_words, Answered}
+use Rattle.candidates.specs.Generate.{Generated, GenerateInput, generate_fault, generated_of, made_of, number_words, Answered}
 use Rattle.coinhamper.specs.Merges.{Generation}
 
 -- a generation's number and counts, which are its answer's where it is accepted
