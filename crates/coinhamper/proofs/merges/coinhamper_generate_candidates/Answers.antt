@@ -9,4 +9,4 @@ returns-in-Ok c = generation _ _ _ _ _ _ _ _ _ 0 0 _ c.in-Ok.ensures (refl, refl
 
 pub returns-in-Err : goal.returns-in-Err
 returns-in-Err c =
-    generation _ _ _ _ _ _ _ _ _ _ _ _ c.in-Err.ensures (c.from.ensures, rw (ne_eqb _ _ (refused _))) (c.from.ensures, rw (ne_eqb _ _ (refused _)))
+    generation _ _ _ _ _ _ _ _ _ _ _ _ c.in-Err.ensures (c.from.ensures, rw (ne_eqb _ _ (refused c.in-Err.refusal))) (c.from.ensures, rw (ne_eqb _ _ (refused c.in-Err.refusal)))
