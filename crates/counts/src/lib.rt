@@ -1,32 +1,8 @@
-// Counts that stop at the ends of a u64 or at each other, and counts too large for a float. Nothing here is refused.
+// Counts too large for a float; in specs/ also a sum that stops at the largest u64. Nothing here is refused.
 #![tactic(auto)]
 
-ghost use Rattle.std.specs.Prelude.{◌≡◌, ◌-◌, max, min};
-ghost use Rattle.counts.specs.Counts.{saturating_add, large, any_large};
-
-pub fn saturating_add(a: u64, b: u64) -> u64
-    ensures { result ≡ saturating_add a b }
-{
-    a.saturating_add(b)
-}
-
-pub fn saturating_sub(a: u64, b: u64) -> u64
-    ensures { result ≡ a - b }
-{
-    a.saturating_sub(b)
-}
-
-pub fn at_least_one(n: u64) -> u64
-    ensures { result ≡ max n 1 }
-{
-    n.max(1)
-}
-
-pub fn smaller(a: usize, b: usize) -> usize
-    ensures { result ≡ min a b }
-{
-    a.min(b)
-}
+ghost use Rattle.std.specs.Prelude.{◌≡◌};
+ghost use Rattle.counts.specs.Counts.{large, any_large};
 
 // A count that a binary64 may not hold.
 pub fn is_large(n: u64) -> bool
