@@ -56,7 +56,12 @@ pub fn first_l0(candidates: &[u64]) -> Option<usize>
 }
 
 // The best of what is compared, the last on a tie.
-pub fn last_best(search: Search, candidates: &[u64], estimates: &[u64], scores: Scores) -> Option<usize>
+pub fn last_best(
+    search: Search,
+    candidates: &[u64],
+    estimates: &[u64],
+    scores: Scores,
+) -> Option<usize>
     ensures { held_in (read_choice candidates.now estimates.now scores) result ≡ best_of search (read_choices candidates.now estimates.now scores) }
 {
     let n = candidate_records::candidate_count(candidates);
