@@ -8,11 +8,5 @@ ghost use Rattle.columns.specs.Columns.{form_of, is_float};
 pub fn is_float(column: usize) -> bool
     ensures { result ≡ is_float (form_of column) }
 {
-    if column == 0 {
-        return false;
-    }
-    if column <= 3 {
-        return true;
-    }
-    11 <= column
+    matches!(column, 1..=3 | 11..)
 }

@@ -4,7 +4,7 @@
 ghost use Rattle.std.specs.Prelude.{◌≡◌, ◌<◌};
 ghost use Rattle.std.proofs.lemmas.List.Edits.{sets};
 ghost use Rattle.fits_headers.specs.Headers.{headers};
-ghost use Rattle.fits_headers.specs.Places.{fronts, front_card, count_card, place_card};
+ghost use Rattle.fits_headers.specs.Places.{front_card, count_card, place_card};
 
 use text_writers::{put_bytes, put_number};
 
@@ -89,46 +89,42 @@ TFORM14 = '1D      '          \
 END                           ";
 
 // A card by its front.
-fn front_card(all: &[u8; 1500], k: usize) -> [u8; CARD]
-    requires { (all.now ≡ fronts) × (k < 50) }
+fn front_card(k: usize) -> [u8; CARD]
+    requires { k < 50 }
     ensures { result ≡ front_card k }
 {
     let mut card = [SPACE; CARD];
-    let mut j: usize = 0;
-    while j < FRONT {
-        card[j] = all[FRONT * k + j];
-        j += 1;
-    }
+    card[..FRONT].copy_from_slice(&FRONTS[FRONT * k..FRONT * (k + 1)]);
     card
 }
 
 // The card of NAXIS2, its number's last digit in byte 30.
-fn count_card(all: &[u8; 1500], rows: u64) -> [u8; CARD]
-    requires { all.now ≡ fronts }
+fn count_card(rows: u64) -> [u8; CARD]
     ensures { result ≡ count_card rows }
 {
-    let mut card = front_card(all, NAXIS2);
+    let mut card = front_card(NAXIS2);
     let digits = put_number(&mut [0u8; 0], 0, rows);
     put_number(&mut card, FRONT - digits, rows);
     card
 }
 
 // What stands in each place for a card.
-fn place_card(all: &[u8; 1500], place: usize, rows: u64) -> [u8; CARD]
-    requires { (all.now ≡ fronts) × (place < 108) }
+#[tactic(auto, unfolding(crate::specs::Places::place_card))]
+fn place_card(place: usize, rows: u64) -> [u8; CARD]
+    requires { place < 108 }
     ensures { result ≡ place_card rows place }
 {
     if place == NAXIS2_PLACE {
-        return count_card(all, rows);
+        return count_card(rows);
     }
     if place < PRIMARY {
-        return front_card(all, place);
+        return front_card(place);
     }
     if place < TABLE {
         return [SPACE; CARD];
     }
     if place < TABLE_END {
-        return front_card(all, place - EMPTY);
+        return front_card(place - EMPTY);
     }
     [SPACE; CARD]
 }
@@ -137,11 +133,7 @@ fn place_card(all: &[u8; 1500], place: usize, rows: u64) -> [u8; CARD]
 pub fn put_headers(out: &mut [u8], rows: u64)
     ensures { out.new ≡ sets out.old 0 (headers rows) }
 {
-    let all = FRONTS;
-    let mut place: usize = 0;
-    while place < PLACES {
-        let card = place_card(&all, place, rows);
-        put_bytes(out, CARD * place, &card);
-        place += 1;
+    for place in 0..PLACES {
+        put_bytes(out, CARD * place, &place_card(place, rows));
     }
 }

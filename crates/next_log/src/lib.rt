@@ -6,6 +6,7 @@ ghost use Rattle.next_log.specs.Next.{next_place, next_log, next_sequence};
 
 use decision_log::{DecisionLog, MAX_DECISIONS_KEPT, kept_place};
 
+#[tactic(auto, unfolding(crate::specs::Next::next_place))]
 pub fn next_place(log: DecisionLog) -> u64
     ensures { result ≡ next_place log }
 {
@@ -18,10 +19,7 @@ pub fn next_place(log: DecisionLog) -> u64
 pub fn next_sequence(log: DecisionLog) -> u64
     ensures { result ≡ next_sequence log }
 {
-    if log.sequence < 0xffff_ffff_ffff_ffff {
-        return log.sequence + 1;
-    }
-    0xffff_ffff_ffff_ffff
+    log.sequence.saturating_add(1)
 }
 
 pub fn next_log(log: DecisionLog) -> DecisionLog
@@ -29,10 +27,11 @@ pub fn next_log(log: DecisionLog) -> DecisionLog
 {
     let sequence = next_sequence(log);
     if log.count < MAX_DECISIONS_KEPT {
+        let count = log.count + 1;
         return DecisionLog {
-            first: log.first,
-            count: log.count + 1,
+            count,
             sequence,
+            ..log
         };
     }
     DecisionLog {

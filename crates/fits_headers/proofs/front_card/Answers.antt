@@ -1,13 +1,14 @@
--- `fits_headers::front_card` meets its contract.
-use Rattle.std.proofs.Common.{◌∙◌, arith}
-use Rattle.fits_headers.specs.Places.Fronts.{front-start, front-more, front-end}
+-- `fits_headers::front_card` meets its contract. The text in the code is that of the definition.
+use Rattle.std.proofs.Common.{◌≡◌, ◌+◌, ◌-◌, ◌*◌, arith}
+use mathlib.Core.List.{flat_map}
+use Rattle.lists.specs.Records.{tabulate}
+use Rattle.numerals.specs.Numbers.{digits_up_to}
+use Rattle.fits_headers.specs.Cards.{field, image, blocks, header}
+use Rattle.fits_headers.specs.Headers.{column_cards, headers}
+use Rattle.fits_headers.specs.Places.{fronts, front_card}
 use Rattle.fits_headers.proofs.front_card.Goals as goal
 
-pub loop-j-init : goal.loop-j-init
-loop-j-init c = (omega arith, front-start _)
-
-pub loop-j-preserved : goal.loop-j-preserved
-loop-j-preserved c = (omega arith, rw (c.requires.0, c.loop-j.invariant.1) (front-more _ _ c.requires.1 c.loop-j-test.true))
-
 pub returns : goal.returns
-returns c = c.loop-j.invariant.1 ∙ front-end _ _ c.loop-j.invariant.0 c.loop-j-test.false
+unfolding front_card fronts tabulate flat_map headers header blocks image field column_cards digits_up_to
+returns c = let e : 30 * (c.args.k + 1) - 30 * c.args.k ≡ 30 = omega arith in
+    rw (c.copy_from_slice.ensures.after, e)
