@@ -27,9 +27,8 @@ pub(crate) fn put_batches(
 {
     let most = MAX_ADAPTIVE_BATCH.min(run.len());
     let mut end = at;
-    let mut len: usize = 0;
-    while len < most {
-        len += 1;
+    for last in 0..most {
+        let len = last + 1;
         let b = batch_of(run, len);
         let count = writers::put_batch(tables, keys, b, next, &mut *numbers, end.numbers);
         end = put_candidate(&mut *candidates, end, 2, level, len as u64, count);

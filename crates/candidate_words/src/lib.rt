@@ -28,12 +28,9 @@ pub fn put_candidates(
             numbers: 0,
         };
     }
-    let n = tables::entry_count(over);
     let mut end = l0_words::put_l0(tables, keys, trigger, &mut *candidates, &mut *numbers);
-    let mut i: usize = 0;
-    while i < n {
+    for i in 0..tables::entry_count(over) {
         let e = tables::entry_at(over, i);
-        i += 1;
         end = level::put_level(tables, keys, e.level, &mut *candidates, &mut *numbers, end);
     }
     end

@@ -19,11 +19,7 @@ pub fn batch_of(run: &[usize], len: usize) -> Batch
 {
     let most = MAX_ADAPTIVE_BATCH.min(len).min(run.len());
     let mut places = [0usize; MAX_ADAPTIVE_BATCH];
-    let mut i: usize = 0;
-    while i < most {
-        places[i] = run[i];
-        i += 1;
-    }
+    places[..most].copy_from_slice(&run[..most]);
     Batch { places, len: most }
 }
 
@@ -36,14 +32,11 @@ pub fn seed(tables: &[u64], order: &[usize]) -> usize
     }
     let mut best = tables::number_at(tables, order[0]);
     let mut at: usize = 0;
-    let mut i: usize = 1;
-    while i < order.len() {
+    for i in 1..order.len() {
         let number = tables::number_at(tables, order[i]);
-        let here = i;
-        i += 1;
         if number < best {
             best = number;
-            at = here;
+            at = i;
         }
     }
     at

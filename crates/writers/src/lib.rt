@@ -16,13 +16,10 @@ fn put_numbers(tables: &[u64], places: &[usize], out: &mut [u64], at: usize) -> 
     ensures { Filled out.old at (numbers_of (tables_of tables.now) places.now) out.new (at + result) }
 {
     let from = at.min(out.len());
-    let mut i: usize = 0;
-    while i < places.len() {
-        let number = number_at(tables, places[i]);
-        buffers::put(&mut *out, from + i, number);
-        i += 1;
+    for (i, &place) in places.iter().enumerate() {
+        buffers::put(&mut *out, from + i, number_at(tables, place));
     }
-    i
+    places.len()
 }
 
 // A batch's tables, and no others.
@@ -102,10 +99,7 @@ fn put_overlapping(
     ensures { Filled out.old at (numbers_of (tables_of tables.now) (overlapping_of keys.now (tables_of tables.now) lo.now hi.now next.now)) out.new (at + result) }
 {
     let mut n: usize = 0;
-    let mut i: usize = 0;
-    while i < next.len() {
-        let place = next[i];
-        i += 1;
+    for &place in next {
         if overlaps::overlaps_at(tables, keys, place, lo, hi) {
             buffers::put(&mut *out, at + n, number_at(tables, place));
             n += 1;

@@ -1,12 +1,9 @@
 -- `candidate_words::put_candidates` meets its contract. What is left is the candidates of the entries from i on.
-use Rattle.std.proofs.Common.{◌-◌, ◌≤◌, length, drop}
+use Rattle.std.proofs.Common.{drop}
 use Rattle.candidate_words.specs.Writing.{Writing}
 use Rattle.candidate_words.specs.Candidates.{over_offers}
 use Rattle.records.specs.Tables.{tables_of, entries_of}
 use Rattle.candidate_words.proofs.put_candidates.Given as goal
 
 abbrev pub invariant-loop-i : goal.invariant-loop-i
-invariant-loop-i l = (l.i ≤ length (entries_of l.over)) × Writing l.initial.end (over_offers l.keys (tables_of l.tables) (entries_of l.over)) l.initial.candidates l.initial.numbers l.end (over_offers l.keys (tables_of l.tables) (drop l.i (entries_of l.over))) l.candidates l.numbers
-
-abbrev pub decreases-loop-i : goal.decreases-loop-i
-decreases-loop-i l = length (entries_of l.over) - l.i
+invariant-loop-i l = Writing l.initial.end (over_offers l.keys (tables_of l.tables) (entries_of l.over)) l.initial.candidates l.initial.numbers l.end (over_offers l.keys (tables_of l.tables) (drop l.i (entries_of l.over))) l.candidates l.numbers

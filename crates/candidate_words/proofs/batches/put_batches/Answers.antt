@@ -9,8 +9,8 @@ use Rattle.candidate_words.specs.Candidates.{batch_of}
 use Rattle.records.specs.Tables.{tables_of}
 use Rattle.candidate_words.proofs.batches.put_batches.Goals as goal
 
-pub loop-len-init : goal.loop-len-init
-loop-len-init c = (omega arith, rw (sub-zero, c.min-most.ensures) (writing_start _ _ _ _))
+pub loop-last-init : goal.loop-last-init
+loop-last-init c = rw (sub-zero, c.min-most.ensures) (writing_start _ _ _ _)
 
 -- `more`: the batch that was made is the next to be written
 pub put_candidate-end-requires : goal.put_candidate-end-requires
@@ -18,26 +18,20 @@ put_candidate-end-requires c =
     let a = c.args in
     let ks = a.keys.now in
     let ts = tables_of a.tables.now in
-    let l = c.loop-len in
-    let more = rw (tabulate-more (batch_of ks ts a.level a.next.now a.run.now) c.min-most.result l.len (omega arith), batch-held ks ts a.level a.next.now a.run.now _ (l.len + 1) (omega (arith, c.min-most.ensures)) c.batch_of-b.ensures) at l.invariant.1 in
+    let l = c.loop-last in
+    let more = rw (tabulate-more (batch_of ks ts a.level a.next.now a.run.now) c.min-most.result l.last c.loop-last-test.true, batch-held ks ts a.level a.next.now a.run.now _ (l.last + 1) (omega (arith, c.min-most.ensures)) c.batch_of-b.ensures) at l.invariant in
     record { level_bound = c.requires.level_bound; words_bound = fit-one _ _ _ _ _ _ _ _ c.put_batch-count.ensures (fit-left _ _ _ (fit-rest _ _ _ _ _ _ _ _ c.requires.fit more)) }
 
-pub loop-len-preserved : goal.loop-len-preserved
-loop-len-preserved c =
+pub loop-last-preserved : goal.loop-last-preserved
+loop-last-preserved c =
     let a = c.args in
     let ks = a.keys.now in
     let ts = tables_of a.tables.now in
-    let l = c.loop-len in
-    let more = rw (tabulate-more (batch_of ks ts a.level a.next.now a.run.now) c.min-most.result l.len (omega arith), batch-held ks ts a.level a.next.now a.run.now _ (l.len + 1) (omega (arith, c.min-most.ensures)) c.batch_of-b.ensures) at l.invariant.1 in
-    (omega arith, writing_part _ _ _ _ _ _ _ _ _ _ _ _ more (written_one _ _ _ _ _ _ _ _ c.put_batch-count.ensures _ _ _ c.put_candidate-end.ensures))
-
-pub shape_of-candidates : goal.shape_of-candidates
-shape_of-candidates c = c.loop-len.invariant.1.words.same
-
-pub shape_of-numbers : goal.shape_of-numbers
-shape_of-numbers c = c.loop-len.invariant.1.numbers.same
+    let l = c.loop-last in
+    let more = rw (tabulate-more (batch_of ks ts a.level a.next.now a.run.now) c.min-most.result l.last c.loop-last-test.true, batch-held ks ts a.level a.next.now a.run.now _ (l.last + 1) (omega (arith, c.min-most.ensures)) c.batch_of-b.ensures) at l.invariant in
+    writing_part _ _ _ _ _ _ _ _ _ _ _ _ more (written_one _ _ _ _ _ _ _ _ c.put_batch-count.ensures _ _ _ c.put_candidate-end.ensures)
 
 pub returns : goal.returns
 unfolding tabulate
-returns c = let e : c.min-most.result - c.loop-len.len ≡ 0 = omega arith in
-    writing_end _ _ _ _ _ _ _ (rw e at c.loop-len.invariant.1)
+returns c = let e : c.min-most.result - c.loop-last.last ≡ 0 = omega arith in
+    writing_end _ _ _ _ _ _ _ (rw e at c.loop-last.invariant)
