@@ -1,9 +1,9 @@
-// Which states are sound, and whether two modes differ. Nothing here is refused.
+// Which states are sound. Nothing here is refused.
 #![tactic(auto)]
 
 ghost use Rattle.std.specs.Prelude.{◌≡◌};
 ghost use Rattle.kinds.specs.Tuning.{source};
-ghost use Rattle.sound.specs.Sound.{own, sound_of, differ};
+ghost use Rattle.sound.specs.Sound.{own, sound_of};
 
 use kinds::mode::GovernorMode;
 use kinds::tuning::{
@@ -48,11 +48,4 @@ pub fn is_sound(mode: GovernorMode, k: Streaks) -> bool
             )
         }
     }
-}
-
-#[tactic(auto, unfolding(crate::specs::Sound::differ))]
-pub fn are_different(a: GovernorMode, b: GovernorMode) -> bool
-    ensures { result ≡ differ a b }
-{
-    a != b
 }
