@@ -135,7 +135,7 @@ fn state_told(call: u64, args: &[u64; WORDS]) -> [u64; SHORT] {
     let mut s = states::state(args);
     let head = [refusals::code(observe(call, args, &mut s))];
     let n = ((38 < call) as usize).min(1);
-    words::told(&head[0..n], &states::state_words(s))
+    words::told(&head[0..n], &states::to_words(s)[1..])
 }
 
 pub fn answer(call: u64, args: &[u64; WORDS]) -> [u64; SHORT] {

@@ -1,10 +1,10 @@
 // A governor's state as the 27 words of a list, which a question has at its front.
 use arith::floats;
 use kinds::focus::FocusState;
-use kinds::mode::GovernorMode;
 use kinds::vector::PressureVector;
 use rows_words::words::{WORDS, word};
 use state::{Counters, GovernorState, Signals, Streaks, Times, Window};
+pub use state_words::{focus_words, mode_of, to_words};
 
 pub fn float(args: &[u64; WORDS], at: usize) -> f64 {
     floats::of_bits(word(args, at))
@@ -15,38 +15,13 @@ pub fn small(args: &[u64; WORDS], at: usize) -> u32 {
     (word(args, at) % 0x1_0000_0000) as u32
 }
 
-fn wide(n: u32) -> u64 {
-    n as u64
-}
-
-pub fn mode_of(n: u64) -> GovernorMode {
-    match n {
-        0 => GovernorMode::Balanced,
-        1 => GovernorMode::ReadProtect,
-        _ => GovernorMode::WriteEmergency,
-    }
-}
-
-fn level_of(flag: u64, level: u32) -> Option<u32> {
-    if flag == 0 { None } else { Some(level) }
-}
-
 // The focus whose flag, level and streak stand from a place on.
 pub fn focus_at(args: &[u64; WORDS], at: usize) -> FocusState {
-    let level = small(args, at.wrapping_add(1));
-    FocusState {
-        current_focus: level_of(word(args, at), level),
-        streak: small(args, at.wrapping_add(2)),
-    }
-}
-
-pub fn focus_words(focus: FocusState) -> [u64; 3] {
-    let level = focus.current_focus;
-    let streak = wide(focus.streak);
-    match level {
-        None => [0, 0, streak],
-        Some(n) => [1, wide(n), streak],
-    }
+    state_words::focus_of(
+        word(args, at),
+        small(args, at.wrapping_add(1)),
+        small(args, at.wrapping_add(2)),
+    )
 }
 
 // The vector whose floats stand from a place on.
@@ -110,38 +85,4 @@ pub fn state(args: &[u64; WORDS]) -> GovernorState {
         },
         counters: counters(args),
     }
-}
-
-pub fn state_words(s: GovernorState) -> [u64; 27] {
-    let focus = focus_words(s.focus);
-    let mode = s.mode;
-    [
-        mode.idx(),
-        floats::to_bits(s.signals.tables_probed_ewma),
-        floats::to_bits(s.signals.pressure_ewma),
-        floats::to_bits(s.signals.last_pressure),
-        floats::to_bits(s.signals.debt_ewma),
-        floats::to_bits(s.signals.pressure_vector.l0),
-        floats::to_bits(s.signals.pressure_vector.deep_debt),
-        floats::to_bits(s.signals.pressure_vector.read),
-        focus[0],
-        focus[1],
-        focus[2],
-        wide(s.streaks.enter_read_protect),
-        wide(s.streaks.exit_read_protect),
-        wide(s.streaks.exit_emergency),
-        s.times.balanced,
-        s.times.read_protect,
-        s.times.write_emergency,
-        s.times.last_transition,
-        s.window.last_probed,
-        s.window.last_resolved,
-        s.counters.mode_switches,
-        s.counters.batch_size_sum,
-        s.counters.batch_size_count,
-        s.counters.trivial_moves_performed,
-        s.counters.trivial_move_bytes_avoided,
-        floats::to_bits(s.counters.predicted_actual_abs_pct_error_sum),
-        s.counters.predicted_actual_samples,
-    ]
 }
