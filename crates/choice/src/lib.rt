@@ -1,7 +1,7 @@
 // The choice with focus: any L0 first, then the focus level while its streak is short, then the best score overall.
 #![tactic(auto)]
 
-ghost use Rattle.std.specs.Prelude.{◌≡◌, ◌<◌, IfOk};
+ghost use Rattle.std.specs.Prelude.{◌≡◌, ◌<◌, List, ℕ, IfOk};
 ghost use Rattle.refusals.specs.Codes.{code};
 ghost use Rattle.candidate_records.specs.Candidates.{candidates_of, estimates_of};
 ghost use Rattle.search.specs.Choices.{choices_from, last_best, lower_score, winner_of};
@@ -14,7 +14,7 @@ use kinds::focus::FocusState;
 use kinds::tier::SelectionTier;
 use kinds::vector::PressureVector;
 use refusals::Refusal;
-use search::{Scores, Search};
+use search::Scores;
 
 // So many jobs in a row go to one level before the best score overall decides anew.
 const FOCUS_MAX_CONSECUTIVE_JOBS: u32 = 3;
@@ -62,13 +62,10 @@ fn pick_fault(vector: PressureVector, candidates: &[u64], estimates: &[u64]) -> 
 fn broken_pairs(candidates: &[u64], estimates: &[u64]) -> bool
     ensures { result ≡ broken_pairs candidates.now estimates.now }
 {
-    if candidate_faults::broken_candidates(candidates) {
-        return true;
-    }
-    if estimates.len() % 9 != 0 {
-        return true;
-    }
-    candidate_records::candidate_count(candidates) != candidate_records::estimate_count(estimates)
+    candidate_faults::broken_candidates(candidates)
+        || estimates.len() % 9 != 0
+        || candidate_records::candidate_count(candidates)
+            != candidate_records::estimate_count(estimates)
 }
 
 fn choose(
@@ -110,16 +107,16 @@ fn continue_focus(
     requires { LevelsFit candidates.now × (streak < focus_max_jobs) }
     ensures { answered result ≡ continued level streak (read_choices candidates.now estimates.now scores) }
 {
-    match pick_best_within_level(level, candidates, estimates, scores) {
-        Some(place) => Picked {
-            winner: Some(place),
-            focus: FocusState {
-                current_focus: Some(level),
-                streak: streak + 1,
-            },
-            tier: SelectionTier::FocusContinued,
+    let Some(place) = pick_best_within_level(level, candidates, estimates, scores) else {
+        return reselect(candidates, estimates, scores);
+    };
+    Picked {
+        winner: Some(place),
+        focus: FocusState {
+            current_focus: Some(level),
+            streak: streak + 1,
         },
-        None => reselect(candidates, estimates, scores),
+        tier: SelectionTier::FocusContinued,
     }
 }
 
@@ -128,7 +125,7 @@ fn reselect(candidates: &[u64], estimates: &[u64], scores: Scores) -> Picked
     requires { LevelsFit candidates.now }
     ensures { answered result ≡ reselected (read_choices candidates.now estimates.now scores) }
 {
-    let Some(level) = select_focus_level(candidates, estimates, scores) else {
+    let Some(level) = select_focus_level(candidates, scores) else {
         return Picked {
             winner: None,
             focus: FocusState {
@@ -149,11 +146,11 @@ fn reselect(candidates: &[u64], estimates: &[u64], scores: Scores) -> Picked
 }
 
 // The level of the best score overall, the last on a tie.
-fn select_focus_level(candidates: &[u64], estimates: &[u64], scores: Scores) -> Option<u32>
+fn select_focus_level(candidates: &[u64], scores: Scores) -> Option<u32>
     requires { LevelsFit candidates.now }
-    ensures { result ≡ top_level (last_best lower_score (read_choices candidates.now estimates.now scores)) }
+    ensures { (ew : List ℕ) → result ≡ top_level (last_best lower_score (read_choices candidates.now ew scores)) }
 {
-    let place = search::last_best(Search::All, candidates, estimates, scores)?;
+    let place = search::best(candidates, scores)?;
     Some(candidate_records::candidate_at(candidates, place).level as u32)
 }
 
@@ -166,9 +163,9 @@ fn pick_best_within_level(
 ) -> Option<usize>
     ensures { result ≡ winner_of (best_within level (read_choices candidates.now estimates.now scores)) }
 {
-    let place = search::last_best(Search::OfLevel(level), candidates, estimates, scores)?;
+    let place = search::best_of_level(level, candidates, scores)?;
     if search::saturated_at(candidates, estimates, place) {
-        return search::last_best(Search::Batches(level), candidates, estimates, scores);
+        return search::longest_of_level(level, candidates, estimates);
     }
     Some(place)
 }

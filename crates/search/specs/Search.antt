@@ -1,7 +1,7 @@
 -- The choices of a call as the code reads them, place by place, and what the search compares. Definitions only.
 pub mod Reading
 pub mod Pass
-use Rattle.std.specs.Prelude.{ℕ, suc, Bool, true, false, cond, ◌&&◌, List, [], ◌∷◌, length, get_or, replicate, eqb, Float, Option, Some, None}
+use Rattle.std.specs.Prelude.{ℕ, suc, Bool, true, false, cond, ◌<◌, ◌≡◌, ◌&&◌, List, [], ◌∷◌, length, get_or, replicate, eqb, Float, Option, Some, None}
 use Rattle.std.proofs.lemmas.List.Edits.{sets}
 use Rattle.std.specs.Float.{nan}
 use Rattle.lists.specs.Filter.{filter_of}
@@ -11,8 +11,6 @@ use Rattle.kinds.specs.declared.vector.PressureVector.{PressureVector}
 use Rattle.candidate_records.specs.declared.Candidate.{Candidate}
 use Rattle.candidate_records.specs.declared.CandidateEstimate.{CandidateEstimate}
 use Rattle.candidate_records.specs.Candidates.{candidates_of, estimates_of, candidate_at, estimate_at}
-use Rattle.search.specs.declared.Search.{Search}
-use Rattle.search.specs.declared.Search.TheVariants.{All, OfLevel, Batches}
 use Rattle.faults.specs.Limits.{max_candidates}
 use Rattle.scores.specs.Score.{score_of}
 use Rattle.search.specs.Choices.{Choice, last_best, lower_score, shorter, saturated, on_level}
@@ -42,6 +40,12 @@ first_l0 i (c ∷ cs) = cond (eqb c.kind 1) (Some i) (first_l0 (suc i) cs)
 
 -- ---- what is compared
 
+-- every score, a level's scores, or the lengths of a level's saturated batches
+pub data Search : Type 0 where
+  All : Search
+  OfLevel : ℕ → Search
+  Batches : ℕ → Search
+
 abbrev pub compared : Search → Choice → Bool
 compared All c = true
 compared (OfLevel l) c = on_level l c
@@ -51,6 +55,13 @@ abbrev pub below : Search → Choice → Choice → Bool
 below All = lower_score
 below (OfLevel l) = lower_score
 below (Batches l) = shorter
+
+-- of the first n places a test says what is compared, and a test of two places what is below what
+abbrev pub Tests : Search → (ℕ → Choice) → ℕ → (ℕ → Bool → Type 0) → Type 0
+Tests s read n says = (i : ℕ) (t : Bool) → i < n → says i t → compared s (read i) ≡ t
+
+abbrev pub Compares : Search → (ℕ → Choice) → ℕ → (ℕ → ℕ → Bool → Type 0) → Type 0
+Compares s read n says = (i k : ℕ) (t : Bool) → i < n → k < n → says i k t → below s (read i) (read k) ≡ t
 
 -- the best of what is compared, the last on a tie
 abbrev pub best_of : Search → List Choice → List Choice

@@ -1,12 +1,13 @@
 // The search in a list of candidates: every score, the first L0, and the last of the best by score or by length. Nothing is refused.
 #![tactic(auto)]
 
-ghost use Rattle.std.specs.Prelude.{◌≡◌, List, [], ℕ, Float, get_or};
+ghost use Rattle.std.specs.Prelude.{◌≡◌, List, [], ℕ, length, Float, get_or};
 ghost use Rattle.std.specs.Float.{nan};
 ghost use Rattle.std.specs.Float.Ieee.{lt};
+ghost use Rattle.lists.specs.Records.{tabulate};
 ghost use Rattle.candidate_records.specs.Candidates.{candidates_of, estimates_of};
-ghost use Rattle.search.specs.Choices.{saturated};
-ghost use Rattle.search.specs.Search.{score_array, first_l0, read_choice, read_choices, compared, below, best_of, held_in, loses};
+ghost use Rattle.search.specs.Choices.{Choice, saturated, on_level, shorter};
+ghost use Rattle.search.specs.Search.{Search, All, OfLevel, Batches, score_array, first_l0, read_choice, read_choices, Tests, Compares, best_of, held_in};
 
 use faults::limits::MAX_CANDIDATES;
 use kinds::vector::PressureVector;
@@ -14,28 +15,14 @@ use scores::cause_aware_score;
 
 pub type Scores = [f64; MAX_CANDIDATES];
 
-// What is compared: every score, a level's scores, or the lengths of a level's saturated batches.
-#[derive(Clone, Copy)]
-pub enum Search {
-    All,
-    OfLevel(u32),
-    Batches(u32),
-}
-
 // Each estimate's score, worked out once; those past the array are left out.
 pub fn all_scores(vector: PressureVector, estimates: &[u64]) -> Scores
     ensures { result ≡ score_array vector (estimates_of estimates.now) }
 {
     let n = candidate_records::estimate_count(estimates);
     let mut scores = [0.0; MAX_CANDIDATES];
-    let mut i: usize = 0;
-    while i < n {
-        if MAX_CANDIDATES <= i {
-            return scores;
-        }
-        let e = candidate_records::estimate_at(estimates, i);
-        scores[i] = cause_aware_score(vector, e);
-        i += 1;
+    for i in 0..n.min(MAX_CANDIDATES) {
+        scores[i] = cause_aware_score(vector, candidate_records::estimate_at(estimates, i));
     }
     scores
 }
@@ -43,102 +30,93 @@ pub fn all_scores(vector: PressureVector, estimates: &[u64]) -> Scores
 pub fn first_l0(candidates: &[u64]) -> Option<usize>
     ensures { result ≡ first_l0 0 (candidates_of candidates.now) }
 {
-    let n = candidate_records::candidate_count(candidates);
-    let mut i: usize = 0;
-    while i < n {
-        let c = candidate_records::candidate_at(candidates, i);
-        if c.kind == 1 {
-            return Some(i);
-        }
-        i += 1;
-    }
-    None
+    (0..candidate_records::candidate_count(candidates)).find(
+        |&place| candidate_records::candidate_at(candidates, place).kind == 1,
+    )
 }
 
-// The best of what is compared, the last on a tie.
-pub fn last_best(
-    search: Search,
-    candidates: &[u64],
-    estimates: &[u64],
-    scores: Scores,
-) -> Option<usize>
-    ensures { held_in (read_choice candidates.now estimates.now scores) result ≡ best_of search (read_choices candidates.now estimates.now scores) }
+// The best score, the last on a tie.
+pub fn best(candidates: &[u64], scores: Scores) -> Option<usize>
+    ensures { (ew : List ℕ) → held_in (read_choice candidates.now ew scores) result ≡ best_of All (read_choices candidates.now ew scores) }
 {
     let n = candidate_records::candidate_count(candidates);
-    let mut best = None;
-    let mut i: usize = 0;
-    while i < n {
-        let here = i;
-        i += 1;
-        if is_compared(search, candidates, estimates, here) {
-            if !is_below_best(search, candidates, scores, best, here) {
-                best = Some(here);
+    last_best(n, |_| true, |here, best| scores_below(scores, here, best))
+}
+
+// The best score of a level, the last on a tie.
+pub fn best_of_level(level: u32, candidates: &[u64], scores: Scores) -> Option<usize>
+    ensures { (ew : List ℕ) → held_in (read_choice candidates.now ew scores) result ≡ best_of (OfLevel level) (read_choices candidates.now ew scores) }
+{
+    let n = candidate_records::candidate_count(candidates);
+    last_best(
+        n,
+        |here| on_level(level, candidates, here),
+        |here, best| scores_below(scores, here, best),
+    )
+}
+
+// The longest saturated batch of a level, the last on a tie.
+pub fn longest_of_level(level: u32, candidates: &[u64], estimates: &[u64]) -> Option<usize>
+    ensures { (scores : List Float) → held_in (read_choice candidates.now estimates.now scores) result ≡ best_of (Batches level) (read_choices candidates.now estimates.now scores) }
+{
+    let n = candidate_records::candidate_count(candidates);
+    last_best(
+        n,
+        |here| on_level(level, candidates, here) && saturated_at(candidates, estimates, here),
+        |here, best| is_shorter(candidates, here, best),
+    )
+}
+
+// Of the first `n` places the best of what is compared, the last where none is below another.
+fn last_best<C: Fn(usize) -> bool, B: Fn(usize, usize) -> bool>(
+    n: usize,
+    compared: C,
+    below: B,
+) -> Option<usize>
+    requires compared { C.IsAlwaysCallable compared }
+    requires below { B.IsAlwaysCallable below }
+    ensures { (search : Search) (read : ℕ → Choice) → Tests search read n (C.post compared) → Compares search read n (B.post below) → held_in read result ≡ best_of search (tabulate read n 0) }
+{
+    let mut best: Option<usize> = None;
+    for here in 0..n {
+        if compared(here) {
+            match best {
+                Some(place) if below(here, place) => {}
+                _ => best = Some(here),
             }
         }
     }
     best
 }
 
-fn is_compared(search: Search, candidates: &[u64], estimates: &[u64], place: usize) -> bool
-    ensures { (scores : List Float) → result ≡ compared search (read_choice candidates.now estimates.now scores place) }
+fn on_level(level: u32, candidates: &[u64], place: usize) -> bool
+    ensures { result ≡ on_level level (read_choice candidates.now [] [] place) }
 {
-    let c = candidate_records::candidate_at(candidates, place);
-    match search {
-        Search::All => true,
-        Search::OfLevel(level) => c.level == level as u64,
-        Search::Batches(level) => {
-            if c.level == level as u64 {
-                return saturated_at(candidates, estimates, place);
-            }
-            false
-        }
-    }
+    candidate_records::candidate_at(candidates, place).level == u64::from(level)
 }
 
 // A batch that clears its level's excess.
 pub fn saturated_at(candidates: &[u64], estimates: &[u64], place: usize) -> bool
     ensures { result ≡ saturated (read_choice candidates.now estimates.now [] place) }
 {
-    let c = candidate_records::candidate_at(candidates, place);
-    if c.kind == 2 {
-        let e = candidate_records::estimate_at(estimates, place);
-        return e.debt_relief >= 1.0;
-    }
-    false
+    candidate_records::candidate_at(candidates, place).kind == 2
+        && candidate_records::estimate_at(estimates, place).debt_relief >= 1.0
 }
 
-// There is a best so far, and the candidate here has a lower score, or of batches a shorter length.
-fn is_below_best(
-    search: Search,
-    candidates: &[u64],
-    scores: Scores,
-    best: Option<usize>,
-    here: usize,
-) -> bool
-    ensures { (ew : List ℕ) → result ≡ loses (below search) (held_in (read_choice candidates.now ew scores) best) (read_choice candidates.now ew scores here) }
+fn is_shorter(candidates: &[u64], here: usize, best: usize) -> bool
+    ensures { result ≡ shorter (read_choice candidates.now [] [] here) (read_choice candidates.now [] [] best) }
 {
-    match best {
-        None => false,
-        Some(place) => match search {
-            Search::All => scores_below(scores, here, place),
-            Search::OfLevel(_) => scores_below(scores, here, place),
-            Search::Batches(_) => {
-                let c = candidate_records::candidate_at(candidates, here);
-                let b = candidate_records::candidate_at(candidates, place);
-                c.batch_len < b.batch_len
-            }
-        },
-    }
+    let c = candidate_records::candidate_at(candidates, here);
+    let b = candidate_records::candidate_at(candidates, best);
+    c.batch_len < b.batch_len
 }
 
 // A score past the array is a NaN, which is below nothing and above nothing.
 fn scores_below(scores: Scores, here: usize, best: usize) -> bool
     ensures { result ≡ lt (get_or scores here nan) (get_or scores best nan) }
 {
-    if here < MAX_CANDIDATES {
-        if best < MAX_CANDIDATES {
-            return scores[here] < scores[best];
-        }
+    match (scores.get(here), scores.get(best)) {
+        (Some(c), Some(b)) => *c < *b,
+        _ => false,
     }
-    false
 }

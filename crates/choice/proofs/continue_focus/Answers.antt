@@ -3,8 +3,8 @@ use Rattle.std.proofs.Common.{◌∙◌}
 use Rattle.choice.specs.Choice.Tiers.{continue_at, continue_none}
 use Rattle.choice.proofs.continue_focus.Goals as goal
 
-pub returns-in-Some : goal.returns-in-Some
-returns-in-Some c = continue_at _ _ _ _ _ c.in-Some.ensures
+pub returns : goal.returns
+returns c = continue_at _ _ _ _ _ c.in-Some.ensures
 
-pub returns-in-None : goal.returns-in-None
-returns-in-None c = c.reselect.ensures ∙ continue_none _ _ _ _ c.in-None.ensures
+pub returns-in_default : goal.returns-in_default
+returns-in_default c = c.reselect.ensures ∙ continue_none _ _ _ _ c.in_default.ensures

@@ -4,10 +4,9 @@ use Rattle.std.proofs.Math.Path.{refl}
 use mathlib.Core.List.{List, [], ◌∷◌}
 use Rattle.kinds.specs.declared.tier.SelectionTier.TheVariants.{None as NoTier, L0, FocusContinued, FocusReselected}
 use Rattle.choice.specs.PickAnswer.{PickAnswer}
-use Rattle.search.specs.declared.Search.TheVariants.{OfLevel, Batches}
 use Rattle.search.specs.Choices.{Choice, saturated, winner_of}
 use Rattle.choice.specs.Choice.{yields, best_within, no_focus, focus_on, answer_of, reselected_by, reselected, top_level, continued_by, first_or}
-use Rattle.search.specs.Search.{read_choice, best_of, held_in}
+use Rattle.search.specs.Search.{OfLevel, Batches, read_choice, best_of, held_in}
 
 -- ---- the best of a level
 

@@ -2,8 +2,8 @@
 use Rattle.std.proofs.Common.{eq-eqb, ne_eqb}
 use Rattle.search.proofs.saturated_at.Goals as goal
 
-pub returns-then-c-eq2 : goal.returns-then-c-eq2
-returns-then-c-eq2 c = rw (← c.candidate_at-c.ensures, eq-eqb _ _ c.if-c-eq2.true, c.estimate_at-e.ensures)
+pub returns-then-candidate_at-eq2 : goal.returns-then-candidate_at-eq2
+returns-then-candidate_at-eq2 c = rw (← c.candidate_at.ensures, eq-eqb _ _ c.if-candidate_at-eq2.true, c.estimate_at.ensures)
 
-pub returns : goal.returns
-returns c = rw (← c.candidate_at-c.ensures, ne_eqb _ _ c.if-c-eq2.false)
+pub returns-else-candidate_at-eq2 : goal.returns-else-candidate_at-eq2
+returns-else-candidate_at-eq2 c = rw (← c.candidate_at.ensures, ne_eqb _ _ c.if-candidate_at-eq2.false)

@@ -6,10 +6,8 @@ use Rattle.std.proofs.Math.Bool.{true, false, cond}
 use mathlib.Core.List.{List, [], ◌∷◌, ◌++◌, append-nil}
 use Rattle.lists.specs.Filter.{filter_of, filter-append, filter-both, filter-all}
 use Rattle.lists.specs.Records.{tabulate, tabulate-length, tabulate-at}
-use Rattle.search.specs.declared.Search.{Search}
-use Rattle.search.specs.declared.Search.TheVariants.{All, OfLevel, Batches}
 use Rattle.search.specs.Choices.{Choice, last_from, last_best, saturated, on_level}
-use Rattle.search.specs.Search.{compared, below, best_of, held_in, loses}
+use Rattle.search.specs.Search.{Search, All, OfLevel, Batches, compared, below, best_of, held_in, loses}
 
 -- what is kept of the best so far and one more
 abbrev keep : (Choice → Choice → Bool) → List Choice → Choice → List Choice

@@ -1,17 +1,28 @@
 -- The choices of a call are those that the code reads.
-use Rattle.std.specs.Prelude.{◌≡◌, Bool, length, get_or, drop, replicate, eqb, Float, Some, None}
+use Rattle.std.specs.Prelude.{◌≡◌, Bool, length, get_or, drop, replicate, min, eqb, Float, Option, Some, None}
 use Rattle.std.proofs.Math.Path.{refl, ap}
-use Rattle.std.proofs.Common.{sym, ◌∙◌, add-one, zero-add, suc-add, add-suc, arith, drop_of_length-le, drop-cons, ext_get_or}
+use Rattle.std.proofs.Common.{sym, ◌∙◌, add-one, zero-add, suc-add, add-suc, arith, drop_of_length-le, drop-cons, eq-eqb, ne_eqb, ext_get_or}
 use Rattle.std.proofs.Math.Bool.{true, false, cond}
 use mathlib.Core.List.{List, [], ◌∷◌}
 use Prim.Native.Nat.{ℕ, zero, suc, ◌+◌, ◌≤◌, ◌<◌}
-use Rattle.std.proofs.Math.Nat.{add-zero}
+use Rattle.std.proofs.Math.Decide.{dec_le}
+use Rattle.std.proofs.Math.Nat.{add-zero, lt_of_not-le}
+use Rattle.std.proofs.iter.Yields.{nat_range_steps}
+use Rattle.std.proofs.lemmas.Iterator.{YieldsList-from_range}
+use Rattle.std.proofs.lemmas.Iterator.Search.{find_from_yields_List}
 use Rattle.std.proofs.lemmas.List.{length-replicate}
 use Rattle.std.proofs.Math.ListN.{get_or-append}
 use Rattle.std.proofs.lemmas.List.Edits.{sets}
 use Rattle.std.proofs.Math.Seq.{length-sets}
 use Rattle.std.specs.Float.{nan}
-use borrow.Author.Tests.{eq-eqb, ne_eqb}
+use Rattle.std.specs.Bool.{⊤}
+use Rattle.std.specs.Fn.{CalledAt}
+use Rattle.std.specs.Iterator.{YieldsThen}
+use Rattle.std.specs.List.{FoldsTo, find, range_with_len}
+use Rattle.std.specs.Option.{MatchOption, option_map}
+use Rattle.std.specs.declared.ops.Range.{Range}
+use denote.Param.Members.{Mut}
+use denote.Ref.{Bor}
 use Rattle.faults.specs.Limits.{max_candidates}
 use Rattle.lists.specs.Filter.{filter_of}
 use Rattle.lists.specs.Records.{tabulate-length, tabulate-at}
@@ -48,6 +59,23 @@ module _ (cs : List Candidate) (i : ℕ) where
   pub l0-end : length cs ≤ i → first_l0 i (drop i cs) ≡ None
   unfolding first_l0
   l0-end h = rw (drop_of_length-le cs h)
+
+module _ (cs : List Candidate) where
+  l0_from : (a n : ℕ) → a + n ≡ length cs → find (λ k. eqb (candidate_at cs k).kind 1) (range_with_len a n) ≡ first_l0 a (drop a cs)
+  unfolding first_l0
+  l0_from a zero h = sym (l0-end cs a (omega arith))
+  l0_from a (suc n) h = rw (drop-cons cs a no_candidate (omega arith), l0_from (a + 1) n (omega arith), add-one)
+
+  -- the places' own search, which tests each for an L0
+  pub l0_places : {F : Type 0} {g : Mut F (Bor ℕ × Unit {0}) Bool} (u : Range ℕ) (f : F) (r : Option ℕ)
+      → (ys : List ℕ) × (j : F) × YieldsThen nat_range_steps (record { start = 0; end = length cs }) ys r u × FoldsTo (λ q x t. CalledAt g q x false t) f ys j × MatchOption r ⊤ (λ x. (h : F) × CalledAt g j x true h)
+      → ((x : ℕ) (b : Bool) (q : F) → CalledAt g f x b q → (q ≡ f) × (b ≡ eqb (candidate_at cs x).kind 1)) → r ≡ first_l0 0 cs
+  l0_places u f r ran k =
+      same r ∙ find_from_yields_List (λ i. eqb (candidate_at cs i).kind 1) u f r ran (YieldsList-from_range 0 (length cs) (length cs) refl (omega arith)) k ∙ l0_from 0 (length cs) (omega arith)
+    where
+      same : (r : Option ℕ) → r ≡ option_map (λ x. x) r
+      same None = refl
+      same (Some x) = refl
 
 module _ (v : PressureVector) where
   pub l0_is : (i : ℕ) (cs : List Candidate) (es : List CandidateEstimate) → length cs ≡ length es → winner_of (filter_of is_l0_choice (choices_from v i cs es)) ≡ first_l0 i cs
@@ -92,6 +120,13 @@ module _ (v : PressureVector) where
       let rest = scores_of v (drop i es) in
       let n : length ss ≡ max_candidates = sym (length-sets ss i rest) ∙ ap length e ∙ length-sets (replicate max_candidates f0) 0 (scores_of v es) ∙ length-replicate max_candidates f0 in
       sym (sets_past rest ss i (omega arith)) ∙ e
+
+  -- nor where the estimates end
+  pub scores_done : (es : List CandidateEstimate) (i : ℕ) (ss : List Float) → min (length es) max_candidates ≤ i → sets ss i (scores_of v (drop i es)) ≡ score_array v es → ss ≡ score_array v es
+  scores_done es i ss h e = elim (dec_le (length es) i) [
+    | yes l ↦ rw (scores_end es i l) at e
+    | no l ↦ scores_full es i ss (omega (arith, lt_of_not-le l)) e
+  ]
 
   scores_length : (es : List CandidateEstimate) → length (scores_of v es) ≡ length es
   unfolding scores_of
