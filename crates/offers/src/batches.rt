@@ -1,7 +1,7 @@
 // Places of up to eight tables, held by value; where a level's batches start. Nothing is refused: what is too long is cut.
 ghost use Rattle.std.specs.Prelude.{◌≡◌, min, take};
 ghost use Rattle.records.specs.Tables.{tables_of};
-ghost use Rattle.offers.specs.Offers.{seed_of, Holds};
+ghost use Rattle.offers.specs.Offers.{seed_of, held_in, Holds};
 
 use crate::MAX_ADAPTIVE_BATCH;
 use records::tables;
@@ -11,6 +11,15 @@ use records::tables;
 pub struct Batch {
     pub places: [usize; MAX_ADAPTIVE_BATCH],
     pub len: usize,
+}
+
+impl Batch {
+    // The places held; a length that says more than eight means eight.
+    pub fn held(&self) -> &[usize]
+        ensures { result.now ≡ held_in self.now }
+    {
+        &self.places[..MAX_ADAPTIVE_BATCH.min(self.len)]
+    }
 }
 
 // The first `len` of a run of places, as far as it goes, and at most eight.

@@ -7,24 +7,19 @@ ghost use Rattle.ranges.specs.Ranges.{low_of, high_of};
 ghost use Rattle.offers.specs.Offers.{held_in};
 
 use keys::{greater, lesser, part};
-use offers::MAX_ADAPTIVE_BATCH;
 use offers::batches::Batch;
 use records::tables;
 
 pub fn batch_low<'a>(tables: &[u64], keys: &'a [u8], b: Batch) -> &'a [u8]
     ensures { result.now ≡ low_of keys.now (tables_of tables.now) (held_in b) }
 {
-    let places = b.places;
-    let len = MAX_ADAPTIVE_BATCH.min(b.len);
-    low(tables, keys, &places[..len])
+    low(tables, keys, b.held())
 }
 
 pub fn batch_high<'a>(tables: &[u64], keys: &'a [u8], b: Batch) -> &'a [u8]
     ensures { result.now ≡ high_of keys.now (tables_of tables.now) (held_in b) }
 {
-    let places = b.places;
-    let len = MAX_ADAPTIVE_BATCH.min(b.len);
-    high(tables, keys, &places[..len])
+    high(tables, keys, b.held())
 }
 
 // By halves, so that 1,024 places are ten calls deep; recursion, since a call's result can't be laid in a local that holds a reference.

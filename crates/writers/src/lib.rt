@@ -8,7 +8,6 @@ ghost use Rattle.lists.specs.Writes.{Filled};
 ghost use Rattle.offers.specs.Offers.{held_in};
 ghost use Rattle.writers.specs.Writers.{numbers_of, merged_in, merged_of};
 
-use offers::MAX_ADAPTIVE_BATCH;
 use offers::batches::Batch;
 use records::tables::number_at;
 
@@ -26,9 +25,7 @@ fn put_numbers(tables: &[u64], places: &[usize], out: &mut [u64], at: usize) -> 
 pub fn put_held(tables: &[u64], b: Batch, out: &mut [u64], at: usize) -> usize
     ensures { Filled out.old at (numbers_of (tables_of tables.now) (held_in b)) out.new (at + result) }
 {
-    let places = b.places;
-    let count = MAX_ADAPTIVE_BATCH.min(b.len);
-    put_numbers(tables, &places[..count], out, at)
+    put_numbers(tables, b.held(), out, at)
 }
 
 // A batch's tables, then those of the next level that overlap their range.
@@ -44,9 +41,7 @@ pub fn put_batch(
 {
     let lo = ranges::batch_low(tables, keys, b);
     let hi = ranges::batch_high(tables, keys, b);
-    let places = b.places;
-    let len = MAX_ADAPTIVE_BATCH.min(b.len);
-    put_merged(tables, keys, lo, hi, &places[..len], next, out, at)
+    put_merged(tables, keys, lo, hi, b.held(), next, out, at)
 }
 
 // The same of any number of tables. Where there is no next level, the range is of no use.
