@@ -39,6 +39,7 @@ pub fn low<'a>(tables: &[u64], keys: &'a [u8], places: &[usize]) -> &'a [u8]
     )
 }
 
+// `low`'s twin: one function of both would take the key and the lesser or greater as closures, with a `requires` for what each answers, and hand them on at each half.
 pub fn high<'a>(tables: &[u64], keys: &'a [u8], places: &[usize]) -> &'a [u8]
     ensures { result.now ≡ high_of keys.now (tables_of tables.now) places.now }
 {
