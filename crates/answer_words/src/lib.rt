@@ -1,4 +1,4 @@
-// Answers as words: what is read of a governor, its figures, a pause, a choice; and the front of a lent buffer that gets them. A refused answer writes nothing.
+// Answers as words: what is read of a governor, its figures, a pause, a choice; and the front of a lent buffer that gets them. A refused answer writes nothing. Refusals are numbers here, as C is told them.
 #![tactic(auto)]
 
 ghost use Rattle.std.specs.Prelude.{◌≡◌, cond, length, eqb};

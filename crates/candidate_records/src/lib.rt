@@ -7,6 +7,7 @@ ghost use Rattle.candidate_records.specs.Candidates.{candidates_of, candidate_at
 use arith::floats;
 use records::words::word;
 
+// The kind is a number as it was lent, so that one that stands for no kind can be refused.
 #[derive(Clone, Copy)]
 pub struct Candidate {
     pub kind: u64,

@@ -1,4 +1,4 @@
-// The choice and the decision on lent words: the six words of a choice, with numbers that stand for no focus or no choice refused.
+// The choice and the decision on lent words: the six words of a choice, with numbers that stand for no focus or no choice refused. Refusals and the focus flag are numbers here, as C has them.
 #![tactic(auto)]
 
 ghost use Rattle.std.specs.Prelude.{◌≡◌, length};

@@ -25,6 +25,7 @@ pub struct SchedulingDecision {
     pub read_relief: f64,
 }
 
+// A number past the last is read as the last: who reads words tests them before. Source and tier each have their own match, since a trait for both would be longer.
 #[tactic(auto, unfolding(crate::specs::Decision::source_from))]
 fn source_of(n: u64) -> PressureSource
     ensures { result ≡ source_from n }

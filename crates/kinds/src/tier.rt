@@ -2,6 +2,7 @@
 ghost use Rattle.std.specs.Prelude.{◌≡◌};
 ghost use Rattle.kinds.specs.Numbers.{tier_number};
 
+// No option of a tier: that nothing was chosen is one of governor.rs's four, with a number of its own.
 #[derive(Debug, Clone, Copy, PartialEq, Eq, Default)]
 pub enum SelectionTier {
     #[default]

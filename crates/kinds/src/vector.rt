@@ -10,6 +10,7 @@ pub struct PressureVector {
     pub read: f64,
 }
 
+// No option of a source: that none is dominant is one of governor.rs's four, with a number of its own.
 #[derive(Debug, Clone, Copy, PartialEq, Eq, Default)]
 pub enum PressureSource {
     #[default]

@@ -1,4 +1,4 @@
-// A log beside its head, three lent words: first, count and sequence. A decision added, and a text read, on such words.
+// A log beside its head, three lent words: first, count and sequence. A decision added, and a text read, on such words. Refusals are numbers here, as C is told them.
 #![tactic(auto)]
 
 ghost use Rattle.std.specs.Prelude.{◌≡◌, length};

@@ -1,4 +1,4 @@
-// One observation on a governor's words, which reads and writes only the words that it is about: the same as on the state in them.
+// One observation on a governor's words, which reads and writes only the words that it is about: the same as on the state in them. Refusals are numbers here, as C is told them.
 #![tactic(auto)]
 
 ghost use Rattle.std.specs.Prelude.{◌≡◌, true, false, cond, ◌&&◌, ◌+◌, ◌-◌, ◌^◌, ◌<◌};
@@ -35,6 +35,7 @@ pub(crate) fn streaks_in(words: &[u64]) -> Streaks
     }
 }
 
+// state_words has the same for whole states alone: it shows none of a state's parts.
 #[tactic(auto, unfolding(state_words::specs::StateWords::state_from, state_words::specs::StateWords::times_in))]
 fn times_in(words: &[u64]) -> Times
     requires { Good words.now }

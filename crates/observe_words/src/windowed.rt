@@ -1,4 +1,4 @@
-// The observation of the running engine on a governor's words: `observe` over a window of its read counters, whose sums are kept.
+// The observation of the running engine on a governor's words: `observe` over a window of its read counters, whose sums are kept. Refusals are numbers here, as C is told them.
 ghost use Rattle.std.specs.Prelude.{◌≡◌, ◌-◌, ◌^◌, ◌≤◌};
 ghost use Rattle.refusals.specs.Codes.{code};
 ghost use Rattle.kinds.specs.Tuning.{source};

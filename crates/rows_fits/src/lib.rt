@@ -1,4 +1,4 @@
-// The calls of fits and log_text.
+// The calls of fits and log_text. A call is its number in the list of calls: rows_calls says why it is no enum.
 #![tactic(auto)]
 
 use decision_log::DecisionLog;

@@ -1,4 +1,4 @@
-// The calls of kinds, state, pressure, governor, engine, report and snapshot.
+// The calls of kinds, state, pressure, governor, engine, report and snapshot. A call is its number in the list of calls: rows_calls says why it is no enum.
 #![tactic(auto)]
 
 use arith::floats;
@@ -13,6 +13,7 @@ use snapshot::GovernorStats;
 use state::GovernorState;
 use windows::{EngineSample, ReadAmpStats};
 
+// By 01's number, as a question gives it.
 fn kind_of(kind: u64, level: u32, batch_len: u64) -> CandidateKind {
     match kind {
         1 => CandidateKind::L0,

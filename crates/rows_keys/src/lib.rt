@@ -1,4 +1,4 @@
-// The calls of keys, with `first_key`, `last_key`, `broken_keys` and `overlaps_at`. The byte lists of a question stand one behind the other.
+// The calls of keys, with `first_key`, `last_key`, `broken_keys` and `overlaps_at`. The byte lists of a question stand one behind the other. A call is its number in the list of calls: rows_calls says why it is no enum.
 #![tactic(auto)]
 
 ghost use Rattle.std.specs.Prelude.{◌≤◌};
@@ -30,6 +30,7 @@ fn overlap(args: &[u64; WORDS], second: usize, bytes: &[u8]) -> bool
     )
 }
 
+// By the C interface's numbers: the rooms below it have the order itself.
 fn order_of(a: &[u8], b: &[u8]) -> u64 {
     match keys::compare(a, b) {
         Ordering::Less => 0,

@@ -1,4 +1,4 @@
-// The calls of decisions and of their log, whose words come from a seed.
+// The calls of decisions and of their log, whose words come from a seed. A call is its number in the list of calls: rows_calls says why it is no enum.
 #![tactic(auto)]
 
 use decision_log::DecisionLog;

@@ -1,4 +1,4 @@
-// The calls of estimates, scores, choice and the decision that a choice leads to.
+// The calls of estimates, scores, choice and the decision that a choice leads to. A call is its number in the list of calls: rows_calls says why it is no enum.
 #![tactic(auto)]
 
 ghost use Rattle.std.specs.Prelude.{◌≤◌};

@@ -1,4 +1,4 @@
-// The calls that write places.
+// The calls that write places. A call is its number in the list of calls: rows_calls says why it is no enum.
 use rows_words::words;
 use rows_words::words::WORDS;
 

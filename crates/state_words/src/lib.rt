@@ -1,4 +1,4 @@
-// A governor's state in lent words: a tag with the version of the layout, then the state's fields in order, floats as their bits. Words that are no such state are refused by a number of their own.
+// A governor's state in lent words: a tag with the version of the layout, then the state's fields in order, floats as their bits. Words that are no such state are refused by a number of their own. Refusals, the mode and the focus flag are numbers here, as C has them.
 #![tactic(auto)]
 
 ghost use Rattle.std.specs.Prelude.{◌≡◌, ◌-◌, ◌^◌, ◌≤◌, length};
@@ -57,6 +57,7 @@ pub fn is_state(words: &[u64]) -> bool
     focus_good(words[9], words[10]) & streaks_good(words[11], words[12], words[13], words[14])
 }
 
+// A number past the last is read as the last: who reads words tests them before.
 pub fn mode_of(n: u64) -> GovernorMode
     ensures { result ≡ mode_from n }
 {
