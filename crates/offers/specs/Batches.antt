@@ -1,7 +1,7 @@
 -- Where batches start, place by place, and what a batch holds.
 use Rattle.std.specs.Prelude.{◌≡◌, refl, Bool, true, false, cond, List, [], ◌∷◌, ℕ, suc, ◌+◌, ◌≤◌, min, ◌<◌, ltb, length, take, drop, get_or}
-use Rattle.std.proofs.Common.{add-one, arith, drop_of_length-le, drop-cons}
-use Rattle.std.proofs.lemmas.List.{take_min}
+use Rattle.std.proofs.Common.{sym, add-one, arith, length-take, drop_of_length-le, drop-cons}
+use Rattle.std.proofs.lemmas.List.{take_min as front_min}
 use Rattle.records.specs.declared.tables.Table.{Table}
 use Rattle.records.specs.Tables.{table_at}
 use Rattle.offers.specs.declared.batches.Batch.{Batch}
@@ -40,6 +40,13 @@ pub seed_some : (ts : List Table) (ps : List ℕ) → 0 < length ps → seed_of 
 unfolding seed_of
 seed_some ts [] h = absurd (omega arith)
 seed_some ts (p ∷ ps) h = refl
+
+-- the first n, or all where there are fewer
+pub take_min : (n : ℕ) (l : List ℕ) → take (min n (length l)) l ≡ take n l
+take_min n l = front_min n l
+
+pub take_count : (n : ℕ) (l : List ℕ) → min n (length l) ≡ length (take n l)
+take_count n l = sym (length-take n l)
 
 -- a batch's length that says more than eight means eight
 pub take-held : (b : Batch) (n : ℕ) → length b.places ≡ 8 → n ≡ min 8 b.len → take n b.places ≡ held_in b
