@@ -6,6 +6,3 @@ use Rattle.estimates.proofs.sum_for.Goals as goal
 
 pub returns-then-sum-level : goal.returns-then-sum-level
 returns-then-sum-level c = let a = c.args in (c.if-sum-level.true, c.requires ∙ ap (λ (l : ℕ). level_bytes_of l (tables_of a.tables.now)) c.if-sum-level.true)
-
-pub returns : goal.returns
-returns c = c.level_sum.ensures
