@@ -1,16 +1,10 @@
 -- `estimates::estimate_candidate` meets its contract.
-use Rattle.estimates.specs.Estimate.Tally.{own-short, estimate-l0, estimate-level}
+use Rattle.estimates.specs.Estimate.Tally.{estimate-l0, estimate-level}
 use Rattle.records.specs.Tables.{tables_of, entries_of}
 use Rattle.estimates.proofs.estimate_candidate.Goals as goal
 
-pub tally-t-requires : goal.tally-t-requires
-tally-t-requires c = (c.requires.sound.small, own-short c.args.numbers.now c.args.c c.requires.sound.short)
-
 pub returns-then-c-eq1 : goal.returns-then-c-eq1
 returns-then-c-eq1 c = let a = c.args in estimate-l0 (tables_of a.numbered.now.tables.now) a.next (entries_of a.over.now) a.numbers.now a.c c.if-c-eq1.true c.tally-t.ensures.0 c.saturating_sub.ensures
-
-pub tally-t-requires-2 : goal.tally-t-requires-2
-tally-t-requires-2 c = (c.requires.sound.small, own-short c.args.numbers.now c.args.c c.requires.sound.short)
 
 pub returns : goal.returns
 returns c = let a = c.args in

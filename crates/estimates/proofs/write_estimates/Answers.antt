@@ -4,7 +4,7 @@ use Rattle.lists.specs.Flat.{flat_more, flat_end}
 use Rattle.estimates.specs.Estimate.{estimate_of, nine_words}
 use Rattle.estimates.specs.Estimate.Call.{estimate_words_of}
 use Rattle.candidate_records.specs.Candidates.{candidates_of, candidate_at, no_candidate}
-use Rattle.lists.specs.Writes.{Filling, fill_start, fill-part, fill_end}
+use Rattle.lists.specs.Writes.{Filling, fill-part, fill_end}
 use Rattle.records.specs.Tables.{tables_of, entries_of}
 use Rattle.reliefs.specs.Reliefs.{level_bytes_of}
 use Rattle.candidate_records.specs.declared.Candidate.{Candidate}
@@ -24,12 +24,6 @@ module _ (ts : List Table) (next : ℕ) (es : List Entry) (ns : List ℕ) (cs : 
   unfolding words
   one_more old whole out new ws e k f h x y z w =
       fill-part old 0 whole out (i * 9) (words (candidate_at cs i)) _ new _ (rw (flat_more words cs i no_candidate h) at f) (record { ends = omega arith; stands = rw (w, z, y, x) })
-
-pub loop-i-init : goal.loop-i-init
-loop-i-init c = (c.level_sum-sum.ensures.1 ∙ ap (λ (l : ℕ). level_bytes_of l (tables_of c.args.numbered.now.tables.now)) (sym c.level_sum-sum.ensures.0), fill_start _ _ _)
-
-pub estimate_candidate-e-requires : goal.estimate_candidate-e-requires
-estimate_candidate-e-requires c = record { sound = rw c.candidate_at-c.ensures (c.requires.sound _ (omega arith)); level_sum = c.sum_for-sum.ensures.1 }
 
 pub loop-i-preserved : goal.loop-i-preserved
 loop-i-preserved c = let a = c.args in let l = c.loop-i in let m = c.sum_for-sum.ensures in

@@ -1,6 +1,6 @@
 -- `estimates::Numbered::first_from` meets its contract.
-use Rattle.std.proofs.Common.{◌≡◌, refl, ◌∙◌, ap, List, ℕ, ◌-◌, ◌/◌, arith, length, get_or, lt-ltb, le-ltb}
-use Rattle.lists.specs.Halving.{halving_start, halving_there, halving_down, halving_up}
+use Rattle.std.proofs.Common.{◌≡◌, refl, ◌∙◌, ap, List, ℕ, ◌-◌, ◌/◌, arith, get_or, lt-ltb, le-ltb}
+use Rattle.lists.specs.Halving.{halving_there, halving_down, halving_up}
 use Rattle.lists.specs.Ordered.{each_at}
 use Rattle.records.specs.Tables.{tables_of}
 use Rattle.number_order.specs.Numbers.{number_at, by_number}
@@ -8,12 +8,6 @@ use Rattle.number_order.specs.Ordered.{number-within}
 use Rattle.lookups.specs.Found.{below-falls}
 use Rattle.estimates.proofs.Numbered.first_from.Goals as goal
 use Rattle.estimates.proofs.Numbered.first_from.Goals.{then-number-number_of, else-number-number_of}
-
-pub loop-left-init : goal.loop-left-init
-loop-left-init c = halving_start (ap length c.args.self.now.in_order) c.requires
-
-pub bounds-self-there : goal.bounds-self-there
-bounds-self-there c = rw c.args.self.now.in_order (halving_there c.loop-left.invariant c.loop-left-test.true refl refl).1
 
 pub number_of-requires : goal.number_of-requires
 number_of-requires c = let ts = tables_of c.args.self.now.tables.now in
@@ -33,6 +27,3 @@ pub returns : goal.returns
 returns c = let s = c.loop-left.invariant in
     let one : c.loop-left.left ≡ 1 = omega (arith, s.some, c.loop-left-test.false) in
     rw one at s
-
-pub overflow_sub-there : goal.overflow_sub-there
-overflow_sub-there c = (halving_there c.loop-left.invariant c.loop-left-test.true refl refl).0
