@@ -11,7 +11,7 @@ returns-in_err-estimate_fault-clause-refusal c =
     let p = err_from_is_err_and c.from_residual.result c.from_residual.ensures.1 in rw (p.1, p.2) (c.in_err-estimate_fault.ensures.refusal ∙ sym (estimated-refusal _ _))
 
 pub write_estimates-requires : goal.write_estimates-requires
-write_estimates-requires c = (accepted _ _ (sym c.in_ok-estimate_fault.ensures.refusal), rw c.table_count-n.ensures c.in_ok-estimate_fault.ensures.fronted.taken)
+write_estimates-requires c = accepted _ _ (sym c.in_ok-estimate_fault.ensures.refusal)
 
 pub returns : goal.returns
 returns c = let a = c.args in

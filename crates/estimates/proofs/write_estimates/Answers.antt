@@ -4,7 +4,7 @@ use Rattle.lists.specs.Flat.{flat_more, flat_end}
 use Rattle.estimates.specs.Estimate.{estimate_of, nine_words}
 use Rattle.estimates.specs.Estimate.Call.{estimate_words_of}
 use Rattle.candidate_records.specs.Candidates.{candidates_of, candidate_at, no_candidate}
-use Rattle.lists.specs.Writes.{Filling, fill_start, fill-part, fill_end}
+use Rattle.lists.specs.Writes.{Filling, fill-part, fill_end}
 use Rattle.records.specs.Tables.{tables_of, entries_of}
 use Rattle.reliefs.specs.Reliefs.{level_bytes_of}
 use Rattle.candidate_records.specs.declared.Candidate.{Candidate}
@@ -25,23 +25,11 @@ module _ (ts : List Table) (next : ℕ) (es : List Entry) (ns : List ℕ) (cs : 
   one_more old whole out new ws e k f h x y z w =
       fill-part old 0 whole out (i * 9) (words (candidate_at cs i)) _ new _ (rw (flat_more words cs i no_candidate h) at f) (record { ends = omega arith; stands = rw (w, z, y, x) })
 
-pub loop-i-init : goal.loop-i-init
-loop-i-init c = (c.level_sum-sum.ensures.1 ∙ ap (λ (l : ℕ). level_bytes_of l (tables_of c.args.tables.now)) (sym c.level_sum-sum.ensures.0), fill_start _ _ _)
-
-pub sum_for-sum-requires : goal.sum_for-sum-requires
-sum_for-sum-requires c = c.loop-i.invariant.0
-
-pub estimate_candidate-e-requires : goal.estimate_candidate-e-requires
-estimate_candidate-e-requires c = record { sound = rw c.candidate_at-c.ensures (c.requires.0.sound _ (omega arith)); order_value = (c.requires.1, c.sum_for-sum.ensures.1) }
-
-pub overflow_mul-i : goal.overflow_mul-i
-overflow_mul-i c = omega (arith, c.requires.0.fits, c.well_formed)
-
 pub loop-i-preserved : goal.loop-i-preserved
 loop-i-preserved c = let a = c.args in let l = c.loop-i in let m = c.sum_for-sum.ensures in
-    (m.1 ∙ ap (λ (l : ℕ). level_bytes_of l (tables_of a.tables.now)) (sym m.0), one_more (tables_of a.tables.now) a.next (entries_of a.over.now) a.numbers.now (candidates_of a.candidates.now) l.i _ _ _ _ _ _ _ l.invariant.1 (omega arith) c.candidate_at-c.ensures c.estimate_candidate-e.ensures c.nine_words-words.ensures c.put_words.ensures)
+    (m.1 ∙ ap (λ (l : ℕ). level_bytes_of l (tables_of a.numbered.now.tables.now)) (sym m.0), one_more (tables_of a.numbered.now.tables.now) a.next (entries_of a.over.now) a.numbers.now (candidates_of a.candidates.now) l.i _ _ _ _ _ _ _ l.invariant.1 (omega arith) c.candidate_at-c.ensures c.estimate_candidate-e.ensures c.nine_words-words.ensures c.put_words.ensures)
 
 pub returns : goal.returns
 returns c = let a = c.args in
-    let e = flat_end (λ k. nine_words (estimate_of (tables_of a.tables.now) a.next (entries_of a.over.now) a.numbers.now k)) (candidates_of a.candidates.now) c.loop-i.i (omega arith) in
+    let e = flat_end (λ k. nine_words (estimate_of (tables_of a.numbered.now.tables.now) a.next (entries_of a.over.now) a.numbers.now k)) (candidates_of a.candidates.now) c.loop-i.i (omega arith) in
     (c.candidate_count-n.ensures, (fill_end _ _ _ _ _ (rw e at c.loop-i.invariant.1)).stands)

@@ -1,9 +1,0 @@
--- `estimates::rewrite` meets its contract.
-use Rattle.std.proofs.Common.{eq-eqb, ne_eqb}
-use Rattle.estimates.proofs.rewrite.Goals as goal
-
-pub returns-then-kind-eq3 : goal.returns-then-kind-eq3
-returns-then-kind-eq3 c = rw (eq-eqb _ _ c.if-kind-eq3.true)
-
-pub returns : goal.returns
-returns c = rw (ne_eqb _ _ c.if-kind-eq3.false)
