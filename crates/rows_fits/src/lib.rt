@@ -153,7 +153,6 @@ fn put_repeated(text: &[u8], length: u64, told: &mut [u64; WORDS]) {
     put_filled(words::cut(&bytes, 0, length as usize), told);
 }
 
-// A call is its number in the list of calls: rows_calls says why it is no enum.
 pub fn put_answer(call: u64, args: &[u64; WORDS], bytes: &[u8], told: &mut [u64; WORDS]) {
     let text = texts::text_of(args, bytes);
     let second = words::after_list(args, 0);

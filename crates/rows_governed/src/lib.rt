@@ -139,7 +139,6 @@ fn state_told(call: u64, args: &[u64; WORDS]) -> [u64; SHORT] {
     words::told(&head[0..n], &states::to_words(s)[1..])
 }
 
-// A call is its number in the list of calls: rows_calls says why it is no enum.
 pub fn answer(call: u64, args: &[u64; WORDS]) -> [u64; SHORT] {
     match call {
         30..=35 => words::told(&numbers(call, args), &[]),

@@ -69,7 +69,6 @@ fn table(args: &[u64; WORDS], at: usize) -> Table
 }
 
 // The key of a call that answers one.
-// A call is its number in the list of calls: rows_calls says why it is no enum.
 pub fn key_of<'a>(call: u64, args: &[u64; WORDS], bytes: &'a [u8]) -> &'a [u8] {
     let at = words::after_list(args, 0);
     let middle = end_of(args, 0, 0);

@@ -119,7 +119,6 @@ fn run(args: &[u64; WORDS]) -> [u64; SHORT] {
     run_told(log, words)
 }
 
-// A call is its number in the list of calls: rows_calls says why it is no enum.
 pub fn answer(call: u64, args: &[u64; WORDS]) -> [u64; SHORT] {
     match call {
         49 | 50 => anew(call, words::part(args, 0)),

@@ -121,7 +121,6 @@ fn score_of(args: &[u64; WORDS]) -> u64 {
     floats::to_bits(scores::cause_aware_score(states::vector_at(args, 0), estimate_at(args)))
 }
 
-// A call is its number in the list of calls: rows_calls says why it is no enum.
 pub fn answer(call: u64, args: &[u64; WORDS]) -> [u64; SHORT] {
     match call {
         47 => words::told(&[score_of(args)], &[]),

@@ -1,7 +1,6 @@
 // The calls of arith. A float is asked and answered by its bits. A call is its number in the list of calls: rows_calls says why it is no enum.
 use arith::{floats, logarithm, root, whole};
 
-// A call is its number in the list of calls: rows_calls says why it is no enum.
 fn float_of(call: u64, n: u64, x: f64, y: f64) -> f64 {
     match call {
         1 => floats::absolute(x),
