@@ -63,10 +63,7 @@ fn is_picked(words: &[u64]) -> bool
 fn picked_in(words: &[u64]) -> Picked
     ensures { answered result ≡ picked_in words.now }
 {
-    let focus = FocusState {
-        current_focus: None,
-        streak: 0,
-    };
+    let focus = FocusState::default();
     if !is_picked(words) {
         return Picked {
             winner: None,

@@ -5,14 +5,13 @@ use Rattle.refusals.specs.declared.Refusal.{Refusal}
 use Rattle.refusals.specs.Refusals.{none}
 use Rattle.refusals.specs.Codes.{code}
 use Rattle.refusals.specs.Codes.Same.{refused}
-use Rattle.refusals.specs.Written.{Written}
 
-counted : (r : Result ℕ Refusal) (w : Written) (old : ℕ) → code r ≡ w.refusal → IfOk r (λ n. n ≡ w.length) → cond (eqb (code r) none) (result_unwrap_or r 0) old ≡ cond (eqb (code r) none) w.length old
-counted (Ok n) w old e f = f
-counted (Err x) w old e f = rw (ne_eqb _ _ (refused x))
+counted : (r : Result ℕ Refusal) (length old : ℕ) → IfOk r (λ n. n ≡ length) → cond (eqb (code r) none) (result_unwrap_or r 0) old ≡ cond (eqb (code r) none) length old
+counted (Ok n) length old f = f
+counted (Err x) length old f = rw (ne_eqb _ _ (refused x))
 
-pub told : (r : Result ℕ Refusal) (w : Written) (old new n c t : ℕ) → code r ≡ w.refusal → IfOk r (λ n. n ≡ w.length)
+pub told : (r : Result ℕ Refusal) (refusal length old new n c t : ℕ) → code r ≡ refusal → IfOk r (λ n. n ≡ length)
     → c ≡ code r → n ≡ result_unwrap_or r 0
     → (t ≡ c) × (new ≡ cond (eqb c none) n old)
-    → (t ≡ w.refusal) × (new ≡ cond (eqb t none) w.length old)
-told r w old new n c t e f g h p = (p.0 ∙ g ∙ e, p.1 ∙ rw (p.0, g, h) (counted r w old e f))
+    → (t ≡ refusal) × (new ≡ cond (eqb t none) length old)
+told r refusal length old new n c t e f g h p = (p.0 ∙ g ∙ e, p.1 ∙ rw (p.0, g, h) (counted r length old f))

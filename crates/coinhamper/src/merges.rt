@@ -12,7 +12,6 @@ ghost use Rattle.choice_words.specs.ChoiceWords.{picked_by, pick_refusal, is_pic
 ghost use Rattle.coinhamper.specs.Governed.{vector_of};
 ghost use Rattle.coinhamper.specs.Merges.{Generation, estimate_with};
 
-use answer_words::tell;
 use candidate_records::CandidateEstimate;
 use kinds::vector::PressureVector;
 

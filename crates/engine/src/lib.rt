@@ -58,8 +58,7 @@ pub fn observe_engine(
     ensures refusal { code result ≡ (engine_of source s.old now e a).refusal }
     ensures state { s.new ≡ (engine_of source s.old now e a).state }
 {
-    let was = s.mode;
-    window_fault(was, s.streaks, s.window, e, a)?;
+    window_fault(s.mode, s.streaks, s.window, e, a)?;
     let probed = probed_per_get(s.window, s.signals.tables_probed_ewma, a);
     governor::observe(&mut *s, now, sample(e, probed))?;
     s.window = window_now(a);

@@ -64,6 +64,7 @@ fn put_bad(text: &[u8], out: &mut [u8]) -> usize
     requires { length text.now ≤ 1110016 }
     ensures { Filled out.old 0 (bad_from 1 (lines_of text.now)) out.new result }
 {
+    // Counted beside the lines: `enumerate` gives a usize from 0, and would be no plainer.
     let mut number: u64 = 1;
     let mut at: usize = 0;
     for line in Lines::of(text) {

@@ -1,2 +1,2 @@
-// Theorems only, in specs/: what a number is looked up as, and the laws of the search by halves. The search itself is the estimates' own.
+// No code. In specs/: what a number is looked up as, and the laws of the search by halves, which is the estimates' own.
 #![tactic(auto)]

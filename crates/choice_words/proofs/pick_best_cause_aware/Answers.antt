@@ -1,5 +1,4 @@
 -- `choice_words::pick_best_cause_aware` meets its contract.
-use Rattle.std.proofs.Common.{◌∙◌}
 use Rattle.choice_words.specs.ChoiceWords.Told.{refused_value, refused_words}
 use Rattle.choice_words.proofs.pick_best_cause_aware.Goals as goal
 

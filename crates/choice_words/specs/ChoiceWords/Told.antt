@@ -1,6 +1,6 @@
 -- What is known of words that are a choice, and of a choice that is refused: its number is told, and nothing is written.
-use Rattle.std.specs.Prelude.{◌≡◌, refl, ℕ, Bool, true, false, List, length, eqb}
-use Rattle.std.proofs.Common.{sym, arith, eqb-true, ne_eqb}
+use Rattle.std.specs.Prelude.{◌≡◌, ℕ, Bool, true, false, List, length, eqb}
+use Rattle.std.proofs.Common.{arith, eqb-true, ne_eqb}
 use Rattle.refusals.specs.declared.Refusal.{Refusal}
 use Rattle.refusals.specs.Codes.{number_of}
 use Rattle.refusals.specs.Codes.Same.{refused}

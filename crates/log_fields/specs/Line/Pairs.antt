@@ -1,9 +1,9 @@
 -- The fields of a line, one at a time.
-use Rattle.std.specs.Prelude.{◌≡◌, Option, Some, None, MatchOption, cond, ℕ, suc, ◌+◌, ◌<◌, Bool, false, List, [], ◌∷◌, ◌++◌, take, drop, get_or, replicate}
+use Rattle.std.specs.Prelude.{◌≡◌, Option, Some, None, MatchOption, cond, ℕ, suc, ◌+◌, ◌-◌, ◌≤◌, ◌<◌, Bool, false, List, [], ◌∷◌, ◌++◌, take, drop, get_or, replicate}
 use Rattle.std.specs.Borrow.{Bor}
 use Rattle.std.specs.Option.{is_some, unwrap_or}
 use Rattle.std.proofs.Math.Path.{refl}
-use Rattle.std.proofs.Common.{sym, ◌∙◌, ap, arith, true≢false, drop-cons}
+use Rattle.std.proofs.Common.{sym, ◌∙◌, ap, arith, true≢false, length-drop, drop-cons}
 use Rattle.std.proofs.Math.Numerals.{add-one}
 use Rattle.std.proofs.Math.Bool.{true}
 use Rattle.std.proofs.Math.ListN.{length, set, length-set}
@@ -13,6 +13,8 @@ use Rattle.lists.specs.Tests.{both, by-test}
 use Rattle.decisions.specs.Decision.{decision_width}
 use Rattle.numerals.specs.Numbers.{is_value, decimal_of, bits_of}
 use Rattle.columns.specs.Columns.{Form, D, K, Column, columns, form_of, is_float}
+use Rattle.replay_text.specs.Lines.{comma, fields_of, find_of}
+use Rattle.replay_text.specs.Lines.Fields.{field-last}
 use Rattle.log_fields.specs.Line.{number_in, reads, words_in, DecisionLine, line_of, words_of_line}
 
 -- ---- a field by its column's form
@@ -60,9 +62,14 @@ module _ (fs left : List (List ℕ)) (words : List ℕ) (i : ℕ) (r : Reading f
   reading-short k is = r.good ∙ rw (next i k, is)
 
 -- a line that is none
-pub no_line : (fs : List (List ℕ)) → reads columns fs ≡ false → words_of_line (line_of fs) ≡ None
+pub no_line : (line : List ℕ) → reads columns (fields_of line) ≡ false → record { good = false; words = replicate decision_width 0 } ≡ line_of (fields_of line)
 unfolding line_of
-no_line fs e = rw e
+no_line line e = rw e
+
+-- fields that are no line
+pub no_words : (fs : List (List ℕ)) → reads columns fs ≡ false → words_of_line (line_of fs) ≡ None
+unfolding line_of
+no_words fs e = rw e
 
 -- ---- behind the last column
 
@@ -72,18 +79,33 @@ module _ (fs left : List (List ℕ)) (words : List ℕ) (r : Reading fs left wor
   unfolding reads
   reading-over f rest is = r.good ∙ rw is
 
-  pub reading_all : left ≡ [] → words_of_line (line_of fs) ≡ Some words
+  pub reading_line : left ≡ [] → record { good = true; words = words } ≡ line_of fs
   unfolding reads words_in line_of
-  reading_all is =
+  reading_line is =
       let g : reads columns fs ≡ true = r.good ∙ rw is in
       let t : words_in columns fs ≡ words = r.taken ∙ rw append-nil (take_all 14 words (omega (arith, r.long))) in
       rw (g, t)
+
+  pub reading_all : left ≡ [] → words_of_line (line_of fs) ≡ Some words
+  reading_all is = sym (ap (λ (l : DecisionLine). words_of_line l) (reading_line is))
+
+-- ---- the last column, of a line with no more commas
+
+module _ (line words : List ℕ) (at : ℕ) (r : Reading (fields_of line) (fields_of (drop at line)) words 13) (h : length line ≤ find_of line comma at) where
+  last : fields_of (drop at line) ≡ take (length line - at) (drop at line) ∷ []
+  last = field-last line at h ∙ rw (take_all (length line - at) (drop at line) (simp length-drop (omega arith)))
+
+  pub last_bad : number_in (form_of 13) (take (length line - at) (drop at line)) ≡ None → reads columns (fields_of line) ≡ false
+  last_bad n = reading_bad _ _ words 13 r _ [] (omega arith) last n
+
+  pub last-good : (w : ℕ) → number_in (form_of 13) (take (length line - at) (drop at line)) ≡ Some w → record { good = true; words = set words 13 w } ≡ line_of (fields_of line)
+  last-good w n = reading_line _ [] (set words 13 w) (reading-more _ _ words 13 r _ [] w (omega arith) last n) refl
 
 -- whether a field came behind the last column decides
 pub reading-last : (fs left new : List (List ℕ)) (words : List ℕ) (r : Option (Bor (List ℕ))) → Reading fs left words 14 → MatchOption r ((left ≡ []) × (new ≡ [])) (λ x. left ≡ x.now ∷ new)
     → words_of_line (line_of fs) ≡ cond (is_some r) None (Some words)
 reading-last fs left new words None r m = reading_all fs left words r m.0
-reading-last fs left new words (Some x) r m = no_line fs (reading-over fs left words r x.now new m)
+reading-last fs left new words (Some x) r m = no_words fs (reading-over fs left words r x.now new m)
 
 -- ---- how many words a line has
 

@@ -4,5 +4,5 @@ use Rattle.coinhamper.proofs.logged.coinhamper_fits_length.Goals as goal
 
 pub returns : goal.returns
 returns c = let a = rw c.head_in.ensures at c.fits_length-answer.ensures in
-    let t = told c.fits_length-answer.result _ c.args.written.now _ _ _ _ a.refusal a.value c.code.ensures c.unwrap_or.ensures (c.tell.ensures.value, c.tell.ensures.count_after) in
+    let t = told c.fits_length-answer.result _ _ c.args.written.now _ _ _ _ a.refusal a.value c.code.ensures c.unwrap_or.ensures (c.tell.ensures.value, c.tell.ensures.count_after) in
     record { value = t.0; written_after = t.1 }

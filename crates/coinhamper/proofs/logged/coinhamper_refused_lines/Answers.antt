@@ -4,5 +4,5 @@ use Rattle.coinhamper.proofs.logged.coinhamper_refused_lines.Goals as goal
 
 pub returns : goal.returns
 returns c = let a = c.refused_lines-answer.ensures in
-    let t = told c.refused_lines-answer.result _ c.args.written.now _ _ _ _ a.refusal a.value c.code.ensures c.unwrap_or.ensures (c.tell.ensures.value, c.tell.ensures.count_after) in
+    let t = told c.refused_lines-answer.result _ _ c.args.written.now _ _ _ _ a.refusal a.value c.code.ensures c.unwrap_or.ensures (c.tell.ensures.value, c.tell.ensures.count_after) in
     record { value = t.0; written_after = t.1; out_after = a.out_after }

@@ -1,5 +1,5 @@
 -- `coinhamper::merges::coinhamper_generate_candidates` meets its contract.
-use Rattle.std.proofs.Common.{refl, sym, ne_eqb}
+use Rattle.std.proofs.Common.{refl, ne_eqb}
 use Rattle.refusals.specs.Codes.Same.{refused}
 use Rattle.coinhamper.specs.Merges.Told.{generation}
 use Rattle.coinhamper.proofs.merges.coinhamper_generate_candidates.Goals as goal
