@@ -1,88 +1,47 @@
-// One observation on a governor's words, which reads and writes only the words that it is about: the same as on the state in them. Refusals are numbers here, as C is told them.
+// One observation on a governor's words, which writes only the words that it is about: the same as on the state in them. Refusals are numbers here, as C is told them.
 #![tactic(auto)]
 
 ghost use Rattle.std.specs.Prelude.{◌≡◌, true, false, cond, ◌&&◌, ◌+◌, ◌-◌, ◌^◌, ◌<◌};
 ghost use Rattle.refusals.specs.Codes.{code};
 ghost use Rattle.kinds.specs.Tuning.{source};
 ghost use Rattle.state.specs.State.{full};
+ghost use Rattle.sound.specs.Sound.{differ};
 ghost use Rattle.pressure.specs.Pressure.{signals_of};
 ghost use Rattle.pressure.specs.Sample.{fraction_of};
-ghost use Rattle.governor.specs.Observe.{next_of, counters_full, observe_fault, observed_of};
-ghost use Rattle.state_words.specs.StateWords.{Good, state_from, state_in, refusal_of, words_after};
-ghost use Rattle.observe_words.specs.ObserveWords.{full_at, signal_words, time_words, observed_words};
+ghost use Rattle.governor.specs.Observe.{next_of, observe_fault, observed_of};
+ghost use Rattle.state_words.specs.StateWords.{state_from, state_in, refusal_of, words_after};
+ghost use Rattle.observe_words.specs.ObserveWords.{full_at, signal_words, time_words};
 
 use arith::floats;
 use kinds::mode::GovernorMode;
-use kinds::vector::PressureVector;
 use modes::NextMode;
 use pressure::PressureSample;
 use refusals::Refusal;
 use state::clock::{time_full, times_after};
 use state::{Signals, Streaks, Times};
-use state_words::mode_of;
+use state_words::StateWords;
 
 pub mod windowed;
 
-#[tactic(auto, unfolding(state_words::specs::StateWords::state_from))]
-pub(crate) fn streaks_in(words: &[u64]) -> Streaks
-    requires { Good words.now }
-    ensures { result ≡ (state_from words.now).streaks }
-{
-    Streaks {
-        enter_read_protect: words[12] as u32,
-        exit_read_protect: words[13] as u32,
-        exit_emergency: words[14] as u32,
-    }
-}
-
-// state_words has the same for whole states alone: it shows none of a state's parts.
-#[tactic(auto, unfolding(state_words::specs::StateWords::state_from, state_words::specs::StateWords::times_in))]
-fn times_in(words: &[u64]) -> Times
-    requires { Good words.now }
-    ensures { result ≡ (state_from words.now).times }
-{
-    Times {
-        balanced: words[15],
-        read_protect: words[16],
-        write_emergency: words[17],
-        last_transition: words[18],
-    }
-}
-
 // The new signals: of the old ones only the three averages count.
-fn signals_after(words: &[u64], p: PressureSample, fraction: f64) -> Signals
-    requires { Good words.now × (fraction ≡ fraction_of p) }
-    ensures { result ≡ signals_of source (state_from words.now).signals p }
+fn signals_after(s: &StateWords, p: PressureSample, fraction: f64) -> Signals
+    requires { fraction ≡ fraction_of p }
+    ensures { result ≡ signals_of source (state_from s.now.words.now).signals p }
 {
-    let averages = Signals {
-        tables_probed_ewma: floats::of_bits(words[2]),
-        pressure_ewma: floats::of_bits(words[3]),
-        last_pressure: 0.0,
-        debt_ewma: floats::of_bits(words[5]),
-        pressure_vector: PressureVector {
-            l0: 0.0,
-            deep_debt: 0.0,
-            read: 0.0,
-        },
-    };
-    let probed = pressure::smoothed(averages.tables_probed_ewma, p.tables_probed_per_get);
-    pressure::blended(
-        averages,
-        probed,
-        pressure::components_of(p, fraction, probed),
-    )
+    let g = s.signals();
+    let probed = pressure::smoothed(g.tables_probed_ewma, p.tables_probed_per_get);
+    pressure::blended(g, probed, pressure::components_of(p, fraction, probed))
 }
 
 // The mode and the streaks after the observation.
-#[tactic(auto, unfolding(state_words::specs::StateWords::state_from, state_words::specs::StateWords::signals_in))]
-fn next(words: &[u64], p: PressureSample, fraction: f64) -> NextMode
-    requires { Good words.now × (fraction ≡ fraction_of p) }
-    ensures { result ≡ next_of source (state_from words.now) p }
+fn next(s: &StateWords, p: PressureSample, fraction: f64) -> NextMode
+    requires { fraction ≡ fraction_of p }
+    ensures { result ≡ next_of source (state_from s.now.words.now) p }
 {
-    let probed = pressure::smoothed(floats::of_bits(words[2]), p.tables_probed_per_get);
+    let probed = pressure::smoothed(s.signals().tables_probed_ewma, p.tables_probed_per_get);
     modes::next_mode(
-        mode_of(words[1]),
-        streaks_in(words),
+        s.mode(),
+        s.streaks(),
         fraction,
         p.max_level_debt_ratio,
         probed,
@@ -97,33 +56,32 @@ fn switches_full(switches: u64, switched: bool) -> bool
     switched & (switches == u64::MAX)
 }
 
-#[tactic(auto, unfolding(crate::specs::ObserveWords::full_at, state_words::specs::StateWords::state_from, state_words::specs::StateWords::counters_in))]
-fn counters_full(words: &[u64], clock: u64, is: GovernorMode) -> bool
-    requires { Good words.now }
-    ensures { result ≡ full_at (state_from words.now) clock is }
+#[tactic(auto, unfolding(crate::specs::ObserveWords::full_at))]
+fn counters_full(s: &StateWords, clock: u64, is: GovernorMode) -> bool
+    ensures { result ≡ full_at (state_from s.now.words.now) clock is }
 {
-    let was = mode_of(words[1]);
-    switches_full(words[21], was != is) | time_full(was, times_in(words), clock)
+    let was = s.mode();
+    switches_full(s.counters().mode_switches, was != is) | time_full(was, s.times(), clock)
 }
 
 // The mode after the observation is given.
-#[tactic(auto, unfolding(governor::specs::Observe::observe_fault, governor::specs::Observe::counters_full, crate::specs::ObserveWords::full_at, state_words::specs::StateWords::state_from))]
+#[tactic(auto, unfolding(governor::specs::Observe::observe_fault, governor::specs::Observe::counters_full, crate::specs::ObserveWords::full_at))]
 fn observe_fault(
-    words: &[u64],
+    s: &StateWords,
     clock: u64,
     p: PressureSample,
     is: GovernorMode,
 ) -> Result<(), Refusal>
-    requires { Good words.now × (is ≡ (next_of source (state_from words.now) p).mode) }
-    ensures { code result ≡ observe_fault source (state_from words.now) clock p }
+    requires { is ≡ (next_of source (state_from s.now.words.now) p).mode }
+    ensures { code result ≡ observe_fault source (state_from s.now.words.now) clock p }
 {
-    if !sound::is_sound(mode_of(words[1]), streaks_in(words)) {
+    if !sound::is_sound(s.mode(), s.streaks()) {
         return Err(Refusal::BadState);
     }
     if counts::any_large(p.l0_count, p.l0_write_stall_trigger, p.backlog_levels) {
         return Err(Refusal::TooLarge);
     }
-    if counters_full(words, clock, is) {
+    if counters_full(s, clock, is) {
         return Err(Refusal::CounterFull);
     }
     Ok(())
@@ -162,47 +120,38 @@ fn time_words(k: Streaks, t: Times) -> [u64; 7]
     ]
 }
 
-fn with_switch(switches: u64, switched: bool) -> u64
-    requires { switched ≡ true → switches < 2 ^ 64 - 1 }
-    ensures { result ≡ cond switched (switches + 1) switches }
+// The number of switches, the mode after the observation given.
+fn switches_after(s: &StateWords, is: GovernorMode) -> u64
+    requires { differ (state_from s.now.words.now).mode is ≡ true → (state_from s.now.words.now).counters.mode_switches < 2 ^ 64 - 1 }
+    ensures { result ≡ cond (differ (state_from s.now.words.now).mode is) ((state_from s.now.words.now).counters.mode_switches + 1) (state_from s.now.words.now).counters.mode_switches }
 {
-    if switched {
+    let switches = s.counters().mode_switches;
+    if s.mode() != is {
         return switches + 1;
     }
     switches
-}
-
-// The words after an observation that nothing refuses; its L0 fraction, and the mode and the streaks after it, are given.
-#[tactic(auto, using(governor::specs::Observe::Room::switch_room), unfolding(crate::specs::ObserveWords::observed_words, state_words::specs::StateWords::state_from, state_words::specs::StateWords::counters_in))]
-fn put_observed(words: &mut [u64], clock: u64, p: PressureSample, fraction: f64, t: NextMode)
-    requires { Good words.old × (counters_full source (state_from words.old) clock p ≡ false) × (t ≡ next_of source (state_from words.old) p) × (fraction ≡ fraction_of p) }
-    ensures { words.new ≡ observed_words words.old clock p }
-{
-    let was = mode_of(words[1]);
-    let is = t.mode;
-    let signals = signal_words(is, signals_after(&*words, p, fraction));
-    let times = time_words(t.streaks, times_after(was, times_in(&*words), clock));
-    let switches = with_switch(words[21], was != is);
-    let errors = floats::to_bits(floats::of_bits(words[26]));
-    buffers::put_words(&mut *words, 1, &signals);
-    buffers::put_words(&mut *words, 12, &times);
-    buffers::put(&mut *words, 21, switches);
-    buffers::put(words, 26, errors);
 }
 
 pub fn observe(words: &mut [u64], clock: u64, p: PressureSample) -> u64
     ensures value { result ≡ refusal_of words.old (observed_of source (state_in words.old) clock p) }
     ensures words_after { words.new ≡ words_after words.old (observed_of source (state_in words.old) clock p) }
 {
-    if !state_words::is_state(&*words) {
+    let Some(s) = StateWords::of(&*words) else {
         return state_words::NOT_A_STATE;
-    }
+    };
     let fraction = pressure::l0_fraction(p);
-    let t = next(&*words, p, fraction);
+    let t = next(&s, p, fraction);
     let is = t.mode;
-    if let Err(refusal) = observe_fault(&*words, clock, p, is) {
+    if let Err(refusal) = observe_fault(&s, clock, p, is) {
         return u64::from(refusal);
     }
-    put_observed(words, clock, p, fraction, t);
+    let signals = signal_words(is, signals_after(&s, p, fraction));
+    let times = time_words(t.streaks, times_after(s.mode(), s.times(), clock));
+    let switches = switches_after(&s, is);
+    let errors = floats::to_bits(s.counters().predicted_actual_abs_pct_error_sum);
+    buffers::put_words(&mut *words, 1, &signals);
+    buffers::put_words(&mut *words, 12, &times);
+    buffers::put(&mut *words, 21, switches);
+    buffers::put(words, 26, errors);
     refusals::NONE
 }

@@ -1,9 +1,9 @@
 // A governor's state in lent words: a tag with the version of the layout, then the state's fields in order, floats as their bits. Words that are no such state are refused by a number of their own. Refusals, the mode and the focus flag are numbers here, as C has them.
 #![tactic(auto)]
 
-ghost use Rattle.std.specs.Prelude.{◌≡◌, ◌-◌, ◌^◌, ◌≤◌, length};
+ghost use Rattle.std.specs.Prelude.{◌≡◌, is_some, IfSome};
 ghost use Rattle.kinds.specs.Numbers.{option_numbers};
-ghost use Rattle.state_words.specs.StateWords.{mode_from, focus_good, focus_from, streaks_good, is_state, vector_in, signals_in, streaks_in, times_in, counters_in, Good, state_from, state_in, focus_words, state_words, gated, refusal_of, words_after};
+ghost use Rattle.state_words.specs.StateWords.{mode_from, focus_good, focus_from, streaks_good, is_state, Good, state_from, state_in, focus_words, state_words, gated, refusal_of, words_after};
 
 use arith::floats;
 use kinds::focus::FocusState;
@@ -78,89 +78,115 @@ pub fn focus_of(flag: u64, level: u32, streak: u32) -> FocusState
     }
 }
 
-fn vector_in(words: &[u64]) -> PressureVector
-    requires { length words.now ≡ 28 }
-    ensures { result ≡ vector_in words.now }
-{
-    PressureVector {
-        l0: floats::of_bits(words[6]),
-        deep_debt: floats::of_bits(words[7]),
-        read: floats::of_bits(words[8]),
-    }
+// Words that are a state, which a reader of them need not ask again.
+#[derive(Clone, Copy)]
+pub struct StateWords<'a> {
+    words: &'a [u64],
+    pub ghost good: { Good words.now },
 }
 
-fn signals_in(words: &[u64]) -> Signals
-    requires { length words.now ≡ 28 }
-    ensures { result ≡ signals_in words.now }
-{
-    Signals {
-        tables_probed_ewma: floats::of_bits(words[2]),
-        pressure_ewma: floats::of_bits(words[3]),
-        last_pressure: floats::of_bits(words[4]),
-        debt_ewma: floats::of_bits(words[5]),
-        pressure_vector: vector_in(words),
+impl<'a> StateWords<'a> {
+    pub fn of(words: &'a [u64]) -> Option<Self>
+        ensures some { is_some result ≡ is_state words.now }
+        ensures words { IfSome result (λ s. s.words.now ≡ words.now) }
+    {
+        if is_state(words) {
+            return Some(StateWords { words });
+        }
+        None
     }
-}
 
-fn streaks_of(a: u64, b: u64, c: u64) -> Streaks
-    requires { (a ≤ 2 ^ 32 - 1) × (b ≤ 2 ^ 32 - 1) × (c ≤ 2 ^ 32 - 1) }
-    ensures { result ≡ streaks_in a b c }
-{
-    Streaks {
-        enter_read_protect: a as u32,
-        exit_read_protect: b as u32,
-        exit_emergency: c as u32,
+    #[tactic(auto, unfolding(crate::specs::StateWords::state_from))]
+    pub fn mode(&self) -> GovernorMode
+        ensures { result ≡ (state_from self.now.words.now).mode }
+    {
+        mode_of(self.words[1])
     }
-}
 
-fn times_in(words: &[u64]) -> Times
-    requires { length words.now ≡ 28 }
-    ensures { result ≡ times_in words.now }
-{
-    Times {
-        balanced: words[15],
-        read_protect: words[16],
-        write_emergency: words[17],
-        last_transition: words[18],
+    #[tactic(auto, unfolding(crate::specs::StateWords::state_from, crate::specs::StateWords::signals_in, crate::specs::StateWords::vector_in))]
+    pub fn signals(&self) -> Signals
+        ensures { result ≡ (state_from self.now.words.now).signals }
+    {
+        Signals {
+            tables_probed_ewma: floats::of_bits(self.words[2]),
+            pressure_ewma: floats::of_bits(self.words[3]),
+            last_pressure: floats::of_bits(self.words[4]),
+            debt_ewma: floats::of_bits(self.words[5]),
+            pressure_vector: PressureVector {
+                l0: floats::of_bits(self.words[6]),
+                deep_debt: floats::of_bits(self.words[7]),
+                read: floats::of_bits(self.words[8]),
+            },
+        }
     }
-}
 
-fn counters_in(words: &[u64]) -> Counters
-    requires { length words.now ≡ 28 }
-    ensures { result ≡ counters_in words.now }
-{
-    Counters {
-        mode_switches: words[21],
-        batch_size_sum: words[22],
-        batch_size_count: words[23],
-        trivial_moves_performed: words[24],
-        trivial_move_bytes_avoided: words[25],
-        predicted_actual_abs_pct_error_sum: floats::of_bits(words[26]),
-        predicted_actual_samples: words[27],
+    #[tactic(auto, unfolding(crate::specs::StateWords::state_from))]
+    fn focus(&self) -> FocusState
+        ensures { result ≡ (state_from self.now.words.now).focus }
+    {
+        focus_of(self.words[9], self.words[10] as u32, self.words[11] as u32)
     }
-}
 
-fn state_from(words: &[u64]) -> GovernorState
-    requires { Good words.now }
-    ensures { result ≡ state_from words.now }
-{
-    let mode = mode_of(words[1]);
-    let signals = signals_in(words);
-    let focus = focus_of(words[9], words[10] as u32, words[11] as u32);
-    let streaks = streaks_of(words[12], words[13], words[14]);
-    let times = times_in(words);
-    let counters = counters_in(words);
-    GovernorState {
-        mode,
-        signals,
-        focus,
-        streaks,
-        times,
-        window: Window {
-            last_probed: words[19],
-            last_resolved: words[20],
-        },
-        counters,
+    #[tactic(auto, unfolding(crate::specs::StateWords::state_from))]
+    pub fn streaks(&self) -> Streaks
+        ensures { result ≡ (state_from self.now.words.now).streaks }
+    {
+        Streaks {
+            enter_read_protect: self.words[12] as u32,
+            exit_read_protect: self.words[13] as u32,
+            exit_emergency: self.words[14] as u32,
+        }
+    }
+
+    #[tactic(auto, unfolding(crate::specs::StateWords::state_from, crate::specs::StateWords::times_in))]
+    pub fn times(&self) -> Times
+        ensures { result ≡ (state_from self.now.words.now).times }
+    {
+        Times {
+            balanced: self.words[15],
+            read_protect: self.words[16],
+            write_emergency: self.words[17],
+            last_transition: self.words[18],
+        }
+    }
+
+    #[tactic(auto, unfolding(crate::specs::StateWords::state_from))]
+    pub fn window(&self) -> Window
+        ensures { result ≡ (state_from self.now.words.now).window }
+    {
+        Window {
+            last_probed: self.words[19],
+            last_resolved: self.words[20],
+        }
+    }
+
+    #[tactic(auto, unfolding(crate::specs::StateWords::state_from, crate::specs::StateWords::counters_in))]
+    pub fn counters(&self) -> Counters
+        ensures { result ≡ (state_from self.now.words.now).counters }
+    {
+        Counters {
+            mode_switches: self.words[21],
+            batch_size_sum: self.words[22],
+            batch_size_count: self.words[23],
+            trivial_moves_performed: self.words[24],
+            trivial_move_bytes_avoided: self.words[25],
+            predicted_actual_abs_pct_error_sum: floats::of_bits(self.words[26]),
+            predicted_actual_samples: self.words[27],
+        }
+    }
+
+    fn state(&self) -> GovernorState
+        ensures { result ≡ state_from self.now.words.now }
+    {
+        GovernorState {
+            mode: self.mode(),
+            signals: self.signals(),
+            focus: self.focus(),
+            streaks: self.streaks(),
+            times: self.times(),
+            window: self.window(),
+            counters: self.counters(),
+        }
     }
 }
 
@@ -168,10 +194,10 @@ fn state_from(words: &[u64]) -> GovernorState
 pub fn state_in(words: &[u64]) -> GovernorState
     ensures { result ≡ state_in words.now }
 {
-    if is_state(words) {
-        return state_from(words);
+    match StateWords::of(words) {
+        None => state::fresh(0),
+        Some(s) => s.state(),
     }
-    state::fresh(0)
 }
 
 // An option's two words: 1 and its number, or 0 and 0.

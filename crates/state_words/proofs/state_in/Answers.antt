@@ -1,16 +1,12 @@
 -- `state_words::state_in` meets its contract.
-use Rattle.std.proofs.Common.{sym, ◌∙◌}
+use Rattle.std.proofs.Common.{sym}
 use Rattle.state_words.specs.StateWords.{state_in}
-use Rattle.state_words.specs.StateWords.Sound.{good}
 use Rattle.state_words.proofs.state_in.Goals as goal
 
-pub state_from-requires : goal.state_from-requires
-state_from-requires c = good _ (sym c.is_state.ensures ∙ c.if-is_state.true)
-
-pub returns-then-is_state : goal.returns-then-is_state
+pub returns-in-None : goal.returns-in-None
 unfolding state_in
-returns-then-is_state c = rw (sym c.is_state.ensures ∙ c.if-is_state.true) c.state_from.ensures
+returns-in-None c = rw (sym c.in-None.ensures.some) c.fresh.ensures
 
-pub returns : goal.returns
+pub returns-in-Some : goal.returns-in-Some
 unfolding state_in
-returns c = rw (sym c.is_state.ensures ∙ c.if-is_state.false) c.fresh.ensures
+returns-in-Some c = rw (sym c.in-Some.ensures.some, ← c.in-Some.ensures.words) c.state.ensures
