@@ -7,11 +7,67 @@ ghost use Rattle.keys.specs.Parts.{IsPart, lesser_part, greater_part};
 
 use std::cmp::Ordering;
 
+// A byte at a time, up to the first that tells.
+fn by_bytes(a: &[u8], b: &[u8]) -> Ordering
+    ensures { result ≡ order_of a.now b.now }
+{
+    for i in 0..a.len() {
+        if b.len() <= i {
+            return Ordering::Greater;
+        }
+        let x = a[i];
+        let y = b[i];
+        if x < y {
+            return Ordering::Less;
+        }
+        if y < x {
+            return Ordering::Greater;
+        }
+    }
+    if a.len() < b.len() {
+        return Ordering::Less;
+    }
+    Ordering::Equal
+}
+
+// The library passes equal bytes in groups, and looks at a whole group before it stops: worth it where the first eight are equal.
 #[tactic(auto, using(crate::specs::KeyOrder::order_slices))]
+#[inline(never)]
+fn by_groups(a: &[u8], b: &[u8]) -> Ordering
+    ensures { result ≡ order_of a.now b.now }
+{
+    match (a.first_chunk::<8>(), b.first_chunk::<8>()) {
+        (Some(x), Some(y)) if x == y => a.cmp(b),
+        _ => by_bytes(a, b),
+    }
+}
+
+// Many keys differ in their first or second byte, which are looked at where the call stands.
+#[inline(always)]
 pub fn compare(a: &[u8], b: &[u8]) -> Ordering
     ensures { result ≡ order_of a.now b.now }
 {
-    a.cmp(b)
+    if 0 < a.len() && 0 < b.len() {
+        let x = a[0];
+        let y = b[0];
+        if x < y {
+            return Ordering::Less;
+        }
+        if y < x {
+            return Ordering::Greater;
+        }
+        if 1 < a.len() && 1 < b.len() {
+            let v = a[1];
+            let w = b[1];
+            if v < w {
+                return Ordering::Less;
+            }
+            if w < v {
+                return Ordering::Greater;
+            }
+        }
+    }
+    by_groups(a, b)
 }
 
 // Of equal keys the first, here and below: `min` gives its first then, and `max` its second.
