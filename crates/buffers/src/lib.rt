@@ -18,5 +18,7 @@ pub fn put_words<T: Copy>(out: &mut [T], at: usize, words: &[T])
 {
     let from = at.min(out.len());
     let count = words.len().min(out.len() - from);
-    out[from..from + count].copy_from_slice(&words[..count]);
+    for i in 0..count {
+        out[from + i] = words[i];
+    }
 }
