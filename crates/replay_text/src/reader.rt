@@ -51,7 +51,7 @@ fn end_before(text: &[u8], at: usize, stop: usize) -> usize
 }
 
 // The line that begins at a place.
-fn line_at(text: &[u8], at: usize) -> Option<LinePart>
+pub fn next_line(text: &[u8], at: usize) -> Option<LinePart>
     ensures { result ≡ line_at_of text.now at }
 {
     if text.len() <= at {
@@ -73,7 +73,7 @@ fn line_at(text: &[u8], at: usize) -> Option<LinePart>
 }
 
 // The lines of a text, each without its end.
-#[derive(Drop)]
+#[derive(Clone, Copy)]
 pub struct Lines<'a> {
     pub(crate) text: &'a [u8],
     pub(crate) at: usize,
@@ -87,7 +87,7 @@ impl<'a> Iterator for Lines<'a> {
     ghost remaining = { item_count lines_left };
 
     fn next(&mut self) -> Option<&'a [u8]> {
-        let line = line_at(self.text, self.at)?;
+        let line = next_line(self.text, self.at)?;
         self.at = line.next;
         Some(&self.text[line.start..line.end])
     }

@@ -1,8 +1,8 @@
--- `replay_text::reader::line_at` meets its contract.
+-- `replay_text::reader::next_line` meets its contract.
 use Rattle.std.proofs.Common.{le-leb}
 use Rattle.replay_text.specs.Lines.{line_at_of}
 use borrow.Author.Tests.{lt-leb}
-use Rattle.replay_text.proofs.reader.line_at.Goals as goal
+use Rattle.replay_text.proofs.reader.next_line.Goals as goal
 
 pub returns-then-text-at : goal.returns-then-text-at
 unfolding line_at_of
