@@ -1,5 +1,6 @@
 -- A line of the log's text: a field to each column, and the decision's words that they are. Definitions only.
 pub mod Pairs
+pub mod Places
 pub mod Short
 use Rattle.std.specs.Prelude.{ℕ, Option, Some, None, Bool, true, false, cond, ◌&&◌, List, [], ◌∷◌, replicate}
 use Rattle.decisions.specs.Decision.{decision_width}

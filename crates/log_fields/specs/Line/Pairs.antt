@@ -31,10 +31,10 @@ decimal-number K field e = refl
 
 -- ---- what is left of the columns
 
-abbrev past : Column
+abbrev pub past : Column
 past = record { name = ""; form = D }
 
-next : (i : ℕ) → i < decision_width → drop i columns ≡ get_or columns i past ∷ drop (i + 1) columns
+pub next : (i : ℕ) → i < decision_width → drop i columns ≡ get_or columns i past ∷ drop (i + 1) columns
 next i h = rw add-one (drop-cons columns i past h)
 
 -- ---- the reading: i fields are numbers of their columns and stand among the words, and the others are left
