@@ -1,4 +1,4 @@
-// One observation on a governor's words, which writes only the words that it is about: the same as on the state in them. Refusals are numbers here, as C is told them.
+// One observation on a governor's words, which reads and writes only the words that it is about: the same as on the state in them. Refusals are numbers here, as C is told them.
 #![tactic(auto)]
 
 ghost use Rattle.std.specs.Prelude.{◌≡◌, true, false, cond, ◌&&◌, ◌+◌, ◌-◌, ◌^◌, ◌<◌};
@@ -14,6 +14,7 @@ ghost use Rattle.observe_words.specs.ObserveWords.{full_at, signal_words, time_w
 
 use arith::floats;
 use kinds::mode::GovernorMode;
+use kinds::vector::PressureVector;
 use modes::NextMode;
 use pressure::PressureSample;
 use refusals::Refusal;
@@ -28,9 +29,23 @@ fn signals_after(s: &StateWords, p: PressureSample, fraction: f64) -> Signals
     requires { fraction ≡ fraction_of p }
     ensures { result ≡ signals_of source (state_from s.now.words.now).signals p }
 {
-    let g = s.signals();
-    let probed = pressure::smoothed(g.tables_probed_ewma, p.tables_probed_per_get);
-    pressure::blended(g, probed, pressure::components_of(p, fraction, probed))
+    let averages = Signals {
+        tables_probed_ewma: s.tables_probed_ewma(),
+        pressure_ewma: s.pressure_ewma(),
+        last_pressure: 0.0,
+        debt_ewma: s.debt_ewma(),
+        pressure_vector: PressureVector {
+            l0: 0.0,
+            deep_debt: 0.0,
+            read: 0.0,
+        },
+    };
+    let probed = pressure::smoothed(averages.tables_probed_ewma, p.tables_probed_per_get);
+    pressure::blended(
+        averages,
+        probed,
+        pressure::components_of(p, fraction, probed),
+    )
 }
 
 // The mode and the streaks after the observation.
@@ -38,7 +53,7 @@ fn next(s: &StateWords, p: PressureSample, fraction: f64) -> NextMode
     requires { fraction ≡ fraction_of p }
     ensures { result ≡ next_of source (state_from s.now.words.now) p }
 {
-    let probed = pressure::smoothed(s.signals().tables_probed_ewma, p.tables_probed_per_get);
+    let probed = pressure::smoothed(s.tables_probed_ewma(), p.tables_probed_per_get);
     modes::next_mode(
         s.mode(),
         s.streaks(),
@@ -61,7 +76,7 @@ fn counters_full(s: &StateWords, clock: u64, is: GovernorMode) -> bool
     ensures { result ≡ full_at (state_from s.now.words.now) clock is }
 {
     let was = s.mode();
-    switches_full(s.counters().mode_switches, was != is) | time_full(was, s.times(), clock)
+    switches_full(s.mode_switches(), was != is) | time_full(was, s.times(), clock)
 }
 
 // The mode after the observation is given.
@@ -125,7 +140,7 @@ fn switches_after(s: &StateWords, is: GovernorMode) -> u64
     requires { differ (state_from s.now.words.now).mode is ≡ true → (state_from s.now.words.now).counters.mode_switches < 2 ^ 64 - 1 }
     ensures { result ≡ cond (differ (state_from s.now.words.now).mode is) ((state_from s.now.words.now).counters.mode_switches + 1) (state_from s.now.words.now).counters.mode_switches }
 {
-    let switches = s.counters().mode_switches;
+    let switches = s.mode_switches();
     if s.mode() != is {
         return switches + 1;
     }
@@ -148,7 +163,7 @@ pub fn observe(words: &mut [u64], clock: u64, p: PressureSample) -> u64
     let signals = signal_words(is, signals_after(&s, p, fraction));
     let times = time_words(t.streaks, times_after(s.mode(), s.times(), clock));
     let switches = switches_after(&s, is);
-    let errors = floats::to_bits(s.counters().predicted_actual_abs_pct_error_sum);
+    let errors = floats::to_bits(s.error_sum());
     buffers::put_words(&mut *words, 1, &signals);
     buffers::put_words(&mut *words, 12, &times);
     buffers::put(&mut *words, 21, switches);

@@ -22,7 +22,7 @@ fn window_fault(s: &StateWords, e: EngineSample, a: ReadAmpStats) -> Result<(), 
 fn sample(s: &StateWords, e: EngineSample, a: ReadAmpStats) -> PressureSample
     ensures { probed_sum a ≤ 2 ^ 64 - 1 → result ≡ sample_of (state_from s.now.words.now) e a }
 {
-    let probed = engine::probed_per_get(s.window(), s.signals().tables_probed_ewma, a);
+    let probed = engine::probed_per_get(s.window(), s.tables_probed_ewma(), a);
     engine::sample(e, probed)
 }
 

@@ -103,6 +103,42 @@ impl<'a> StateWords<'a> {
         mode_of(self.words[1])
     }
 
+    // What an observation goes by, each read from its one word.
+    #[tactic(auto, unfolding(crate::specs::StateWords::state_from, crate::specs::StateWords::signals_in))]
+    pub fn tables_probed_ewma(&self) -> f64
+        ensures { result ≡ (state_from self.now.words.now).signals.tables_probed_ewma }
+    {
+        floats::of_bits(self.words[2])
+    }
+
+    #[tactic(auto, unfolding(crate::specs::StateWords::state_from, crate::specs::StateWords::signals_in))]
+    pub fn pressure_ewma(&self) -> f64
+        ensures { result ≡ (state_from self.now.words.now).signals.pressure_ewma }
+    {
+        floats::of_bits(self.words[3])
+    }
+
+    #[tactic(auto, unfolding(crate::specs::StateWords::state_from, crate::specs::StateWords::signals_in))]
+    pub fn debt_ewma(&self) -> f64
+        ensures { result ≡ (state_from self.now.words.now).signals.debt_ewma }
+    {
+        floats::of_bits(self.words[5])
+    }
+
+    #[tactic(auto, unfolding(crate::specs::StateWords::state_from, crate::specs::StateWords::counters_in))]
+    pub fn mode_switches(&self) -> u64
+        ensures { result ≡ (state_from self.now.words.now).counters.mode_switches }
+    {
+        self.words[21]
+    }
+
+    #[tactic(auto, unfolding(crate::specs::StateWords::state_from, crate::specs::StateWords::counters_in))]
+    pub fn error_sum(&self) -> f64
+        ensures { result ≡ (state_from self.now.words.now).counters.predicted_actual_abs_pct_error_sum }
+    {
+        floats::of_bits(self.words[26])
+    }
+
     #[tactic(auto, unfolding(crate::specs::StateWords::state_from, crate::specs::StateWords::signals_in, crate::specs::StateWords::vector_in))]
     pub fn signals(&self) -> Signals
         ensures { result ≡ (state_from self.now.words.now).signals }

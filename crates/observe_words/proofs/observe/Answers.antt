@@ -33,5 +33,5 @@ returns c =
     let a = accepted _ _ _ (sym c.in-Some.ensures.some) (rw c.in-Some.ensures.words at (sym (told_none _ c.in_default-observe_fault.not-Err) ∙ c.observe_fault.ensures)) in
     record {
       value = a.0;
-      words_after = c.put-2.ensures ∙ rw (c.put.ensures, c.put_words-2.ensures, c.put_words.ensures, c.signal_words-signals.ensures, c.time_words-times.ensures, c.switches_after-switches.ensures, c.to_bits-errors.ensures, c.counters.ensures, c.signals_after.ensures, c.times_after.ensures, c.times.ensures, c.mode.ensures, c.next-t.ensures, c.in-Some.ensures.words) a.1;
+      words_after = c.put-2.ensures ∙ rw (c.put.ensures, c.put_words-2.ensures, c.put_words.ensures, c.signal_words-signals.ensures, c.time_words-times.ensures, c.switches_after-switches.ensures, c.to_bits-errors.ensures, c.error_sum.ensures, c.signals_after.ensures, c.times_after.ensures, c.times.ensures, c.mode.ensures, c.next-t.ensures, c.in-Some.ensures.words) a.1;
     }
