@@ -59,6 +59,19 @@ fn put_answer(call: u64, args: &[u64; WORDS], bytes: &[u8; BYTES], told: &mut [u
     }
 }
 
+// The answer of a question that is read. On its own, since a function lays its large rooms at every way in: here once.
+fn called(
+    name: &[u8],
+    asked: Option<Shape>,
+    args: &mut [u64; WORDS],
+    told: &mut [u64; WORDS],
+) -> Result<Shape, Fault> {
+    let mut bytes = [0u8; BYTES];
+    let call = rows_calls::call_of(name, asked, args, &mut bytes)?;
+    put_answer(call.number, args, &bytes, told);
+    Ok(call.told)
+}
+
 // The answer of a question goes to words, whose shape is answered.
 fn answered(line: &[u8], args: &mut [u64; WORDS], told: &mut [u64; WORDS]) -> Result<Shape, Fault> {
     if line.is_empty() {
@@ -70,10 +83,7 @@ fn answered(line: &[u8], args: &mut [u64; WORDS], told: &mut [u64; WORDS]) -> Re
     let end = line.iter().position(|b| *b == b' ').unwrap_or(line.len());
     let (name, text) = line.split_at(end);
     let asked = rows_questions::arguments(text, args)?;
-    let mut bytes = [0u8; BYTES];
-    let call = rows_calls::call_of(name, asked, args, &mut bytes)?;
-    put_answer(call.number, args, &bytes, told);
-    Ok(call.told)
+    called(name, asked, args, told)
 }
 
 // Answers the whole lines, and tells where the line that has no end yet starts.

@@ -1,4 +1,4 @@
-// What is written: bytes into a room, which goes to standard output when it is full.
+// What is written: bytes into a room, which goes to standard output when it is full, but for its last byte.
 #![tactic(auto)]
 
 ghost use Rattle.std.specs.Prelude.{◌≡◌, OnOk};
@@ -36,7 +36,9 @@ impl Output {
 
     fn byte(&mut self, rt: &impl Print, b: u8) -> Result<()> {
         if ROOM <= self.end {
-            self.flush(rt)?;
+            rt.write_all(words::cut(&self.bytes, 0, ROOM - 1))?;
+            self.bytes[0] = self.bytes[ROOM - 1];
+            self.end = 1;
         }
         self.bytes[self.end] = b;
         self.end += 1;

@@ -25,25 +25,28 @@ pub fn length_at(args: &[u64; WORDS], at: usize) -> usize
     (word(args, at) as usize).min(SEEDED)
 }
 
-// The i-th word is seed * (2 i + 1).
-fn seeded_word(seed: u64, i: usize) -> u64 {
-    seed.wrapping_mul((i as u64).wrapping_mul(2).wrapping_add(1))
+fn odd_after(word: u64, seed: u64) -> u64 {
+    word.wrapping_add(seed).wrapping_add(seed)
 }
 
+// The i-th word is seed * (2 i + 1).
 pub fn seeded(seed: u64) -> [u64; SEEDED] {
     let mut words = [0u64; SEEDED];
-    for (i, word) in words.iter_mut().enumerate() {
-        *word = seeded_word(seed, i);
+    let mut next = seed;
+    for word in words.iter_mut() {
+        *word = next;
+        next = odd_after(next, seed);
     }
     words
 }
 
-// The sum of each word or byte times its place from 1 on.
+// The sum of each word or byte times its place from 1 on, by the sums from each place to the end: a product costs more.
 pub fn digest<T: Element>(list: &[T]) -> u64 {
+    let mut sum: u64 = 0;
     let mut total: u64 = 0;
-    for (i, n) in list.iter().enumerate() {
-        let place = (i as u64).wrapping_add(1);
-        total = total.wrapping_add(n.as_word().wrapping_mul(place));
+    for n in list.iter().rev() {
+        sum = sum.wrapping_add(n.as_word());
+        total = total.wrapping_add(sum);
     }
     total
 }
@@ -58,11 +61,13 @@ fn put_pair(told: &mut [u64; SHORT], at: usize, n: u64, m: u64) {
 // An answer with, from 4 on, the list of the places and words that differ from the seed's, and the digest.
 pub fn changes(mut told: [u64; SHORT], words: &[u64], seed: u64) -> [u64; SHORT] {
     let mut to: usize = 5;
+    let mut next = seed;
     for (i, word) in words.iter().enumerate() {
-        if *word != seeded_word(seed, i) {
+        if *word != next {
             put_pair(&mut told, to, i as u64, *word);
             to = to.wrapping_add(2);
         }
+        next = odd_after(next, seed);
     }
     told[4] = (to as u64).wrapping_sub(5);
     put_pair(&mut told, to, digest(words), 0);
