@@ -1,17 +1,18 @@
 // Keys and their order, byte by byte, a prefix being smaller; and a part of the key bytes. Nothing is refused.
 #![tactic(auto)]
 
-ghost use Rattle.std.specs.Prelude.{◌≡◌};
+ghost use Rattle.std.specs.Prelude.{◌≡◌, ◌≤◌, length, drop};
 ghost use Rattle.keys.specs.Keys.{order_of};
 ghost use Rattle.keys.specs.Parts.{IsPart, lesser_part, greater_part};
 
 use std::cmp::Ordering;
 
-// A byte at a time, up to the first that tells.
-fn by_bytes(a: &[u8], b: &[u8]) -> Ordering
+// A byte at a time from a place on, before which the keys are equal.
+fn by_bytes(a: &[u8], b: &[u8], from: usize) -> Ordering
+    requires { (from ≤ length a.now) × (order_of a.now b.now ≡ order_of (drop from a.now) (drop from b.now)) }
     ensures { result ≡ order_of a.now b.now }
 {
-    for i in 0..a.len() {
+    for i in from..a.len() {
         if b.len() <= i {
             return Ordering::Greater;
         }
@@ -33,12 +34,13 @@ fn by_bytes(a: &[u8], b: &[u8]) -> Ordering
 // The library passes equal bytes in groups, and looks at a whole group before it stops: worth it where the first eight are equal.
 #[tactic(auto, using(crate::specs::KeyOrder::order_slices))]
 #[inline(never)]
-fn by_groups(a: &[u8], b: &[u8]) -> Ordering
+fn by_groups(a: &[u8], b: &[u8], from: usize) -> Ordering
+    requires { (from ≤ length a.now) × (order_of a.now b.now ≡ order_of (drop from a.now) (drop from b.now)) }
     ensures { result ≡ order_of a.now b.now }
 {
     match (a.first_chunk::<8>(), b.first_chunk::<8>()) {
         (Some(x), Some(y)) if x == y => a.cmp(b),
-        _ => by_bytes(a, b),
+        _ => by_bytes(a, b, from),
     }
 }
 
@@ -47,27 +49,29 @@ fn by_groups(a: &[u8], b: &[u8]) -> Ordering
 pub fn compare(a: &[u8], b: &[u8]) -> Ordering
     ensures { result ≡ order_of a.now b.now }
 {
-    if 0 < a.len() && 0 < b.len() {
-        let x = a[0];
-        let y = b[0];
-        if x < y {
-            return Ordering::Less;
-        }
-        if y < x {
-            return Ordering::Greater;
-        }
-        if 1 < a.len() && 1 < b.len() {
-            let v = a[1];
-            let w = b[1];
-            if v < w {
-                return Ordering::Less;
-            }
-            if w < v {
-                return Ordering::Greater;
-            }
-        }
+    if a.len() < 1 || b.len() < 1 {
+        return by_groups(a, b, 0);
     }
-    by_groups(a, b)
+    let x = a[0];
+    let y = b[0];
+    if x < y {
+        return Ordering::Less;
+    }
+    if y < x {
+        return Ordering::Greater;
+    }
+    if a.len() < 2 || b.len() < 2 {
+        return by_groups(a, b, 1);
+    }
+    let v = a[1];
+    let w = b[1];
+    if v < w {
+        return Ordering::Less;
+    }
+    if w < v {
+        return Ordering::Greater;
+    }
+    by_groups(a, b, 2)
 }
 
 // Of equal keys the first, here and below: `min` gives its first then, and `max` its second.

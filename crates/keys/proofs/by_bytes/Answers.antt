@@ -1,10 +1,10 @@
 -- `keys::by_bytes` meets its contract.
-use Rattle.std.proofs.Common.{refl, sym, ◌∙◌, arith, lt-ltb, le-ltb}
+use Rattle.std.proofs.Common.{sym, ◌∙◌, arith, lt-ltb, le-ltb}
 use Rattle.keys.specs.KeySteps.{order-at, order-long, order-short, order-end}
 use Rattle.keys.proofs.by_bytes.Goals as goal
 
 pub loop-i-init : goal.loop-i-init
-loop-i-init c = refl
+loop-i-init c = c.requires.1
 
 pub returns-then-b-i : goal.returns-then-b-i
 returns-then-b-i c = sym (c.loop-i.invariant ∙ order-long _ _ _ c.loop-i-test.true c.if-b-i.true)
