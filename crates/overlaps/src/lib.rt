@@ -16,6 +16,7 @@ fn at_most(a: &[u8], b: &[u8]) -> bool
 }
 
 // The table's keys meet the range from lo to hi, both ends counted.
+#[inline(always)]
 pub fn overlaps_at(tables: &[u64], keys: &[u8], place: usize, lo: &[u8], hi: &[u8]) -> bool
     ensures { result ≡ overlaps keys.now lo.now hi.now (table_at (tables_of tables.now) place) }
 {

@@ -113,7 +113,8 @@ fn shift(text: &mut [u8; TEXT], from: usize, end: usize) -> usize {
     kept
 }
 
-// Answers what stands before an end; what is kept of it is then at the front.
+// Answers what stands before an end; what is kept of it is then at the front. Not put in line, so that its rooms are laid only where there is a text.
+#[inline(never)]
 fn answer_text(rt: &impl Print, text: &mut [u8; TEXT], end: usize) -> io::Result<usize> {
     let mut args = [0u64; WORDS];
     let mut told = [0u64; WORDS];
