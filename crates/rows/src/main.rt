@@ -59,7 +59,7 @@ fn put_answer(call: u64, args: &[u64; WORDS], bytes: &[u8; BYTES], told: &mut [u
     }
 }
 
-// The answer of a question that is read. On its own, since a function lays its large rooms at every way in: here once.
+// The answer of a question that is read. On its own: with its room in `answered`, the compiler zeroed that once more for each line.
 fn called(
     name: &[u8],
     asked: Option<Shape>,
