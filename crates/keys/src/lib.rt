@@ -2,6 +2,7 @@
 #![tactic(auto)]
 
 ghost use Rattle.std.specs.Prelude.{◌≡◌, ◌≤◌, length, drop};
+ghost use Rattle.std.specs.Ordering.{nat_cmp};
 ghost use Rattle.keys.specs.Keys.{order_of};
 ghost use Rattle.keys.specs.Parts.{IsPart, lesser_part, greater_part};
 
@@ -44,13 +45,21 @@ fn by_groups(a: &[u8], b: &[u8], from: usize) -> Ordering
     }
 }
 
-// Many keys differ in their first or second byte, which are looked at where the call stands.
+// Of two keys of which one starts the other.
+#[inline(always)]
+fn by_length(a: &[u8], b: &[u8]) -> Ordering
+    ensures { result ≡ nat_cmp (length a.now) (length b.now) }
+{
+    a.len().cmp(&b.len())
+}
+
+// Many keys differ in their first or second byte, which are looked at where the call stands, or end there.
 #[inline(always)]
 pub fn compare(a: &[u8], b: &[u8]) -> Ordering
     ensures { result ≡ order_of a.now b.now }
 {
     if a.len() < 1 || b.len() < 1 {
-        return by_groups(a, b, 0);
+        return by_length(a, b);
     }
     let x = a[0];
     let y = b[0];
@@ -61,7 +70,7 @@ pub fn compare(a: &[u8], b: &[u8]) -> Ordering
         return Ordering::Greater;
     }
     if a.len() < 2 || b.len() < 2 {
-        return by_groups(a, b, 1);
+        return by_length(a, b);
     }
     let v = a[1];
     let w = b[1];

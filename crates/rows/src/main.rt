@@ -49,9 +49,7 @@ fn put_answer(call: u64, args: &[u64; WORDS], bytes: &[u8; BYTES], told: &mut [u
         29 => rows_candidates::put_answer(args, bytes, told),
         46 => rows_merges::put_estimates(args, told),
         58 | 59 => rows_replay::put_answer(call, args, bytes, told),
-        60 => {
-            words::put_all(told, 0, args);
-        }
+        60 => told.copy_from_slice(args),
         63..=66 => rows_fits::put_answer(call, args, bytes, told),
         _ => {
             words::put_all(told, 0, &short_answer(call, args, bytes));
